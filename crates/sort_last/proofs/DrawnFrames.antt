@@ -23,9 +23,9 @@ use Rattle.rc_base.specs.Cluster.Tiles.{window_rect}
 use Rattle.scene_lemmas.proofs.Triangles.{nearer_is_first}
 use Rattle.sort_last.specs.Layers.{layer_pixel}
 use Rattle.sort_last.specs.Offends.{IsComposable}
-use Rattle.sort_last.specs.Players.{IsSheet, HasDrawn, HaveDrawn, shows, draw_if, start_of}
+use Rattle.sort_last.specs.Players.{IsSheet, AreSheets, HoldLayers, HasDrawn, HoldEach, shows, draw_if, start_of}
 use Rattle.sort_last.specs.declared.play.DrawPass.TheVariants as pass
-use Rattle.sort_last.specs.declared.player.Player.{Player}
+use Rattle.sort_last.specs.declared.sheet.ClientLayers.{ClientLayers}
 use Rattle.sort_last.specs.declared.sheet.Sheet.{Sheet}
 use Rattle.sort_last.proofs.ComposedFrames.{depths}
 use Rattle.sort_last.proofs.FrameBounds.{frame_layer}
@@ -73,19 +73,21 @@ frame_added scene d client frame lt inside first from to x y s old new low room 
     let old_at = λ (k : ℕ) (m : Sheet) (ne : k ≡ at → ⊥). ap (λ ls. slice_index_or ls k m) items ∙ get_or-set_other old at k s m ne in
     record {
       context = c ∙ ap (context_after scene client) b;
-      over = λ k m less. elim (cases_eq k at) [
-        | inl e ↦ subst (IsSheet (window_rect scene.decl.width scene.decl.height)) (sym (new_at k m e)) sheet
-        | inr ne ↦ subst (IsSheet (window_rect scene.decl.width scene.decl.height)) (sym (old_at k m ne)) (h.over k m (omega (arith, less, size)))
-      ];
-      room = omega (arith, size, room);
-      each = λ k m less. elim (cases_eq k at) [
-        | inl e ↦
-            let index : frame + 1 ≡ first + k + 1 = omega (arith, e, low) in
-            subst (λ (n : Sheet). Holds n.device (layer_pixel scene client (first + k + 1))) (sym (new_at k m e))
-            (subst (λ j. Holds s.device (layer_pixel scene client j)) index here)
-        | inr ne ↦
-            subst (λ (n : Sheet). Holds n.device (layer_pixel scene client (first + k + 1))) (sym (old_at k m ne)) (h.each k m (before k ne less))
-      ];
+      layers = record {
+        over = λ k m less. elim (cases_eq k at) [
+          | inl e ↦ subst (IsSheet (window_rect scene.decl.width scene.decl.height)) (sym (new_at k m e)) sheet
+          | inr ne ↦ subst (IsSheet (window_rect scene.decl.width scene.decl.height)) (sym (old_at k m ne)) (h.layers.over k m (omega (arith, less, size)))
+        ];
+        room = omega (arith, size, room);
+        each = λ k m less. elim (cases_eq k at) [
+          | inl e ↦
+              let index : frame + 1 ≡ first + k + 1 = omega (arith, e, low) in
+              subst (λ (n : Sheet). Holds n.device (layer_pixel scene client (first + k + 1))) (sym (new_at k m e))
+              (subst (λ j. Holds s.device (layer_pixel scene client j)) index here)
+          | inr ne ↦
+              subst (λ (n : Sheet). Holds n.device (layer_pixel scene client (first + k + 1))) (sym (old_at k m ne)) (h.layers.each k m (before k ne less))
+        ];
+      };
     }
   where
     before : (k : ℕ) → (k ≡ frame - first → ⊥) → first + k < frame + 1 → first + k < frame
@@ -96,37 +98,39 @@ pub sheet_pushed : (scene : Scene) (client first : ℕ) (x : ClientContext) (old
     → IsSheet (window_rect scene.decl.width scene.decl.height) s → HasDrawn scene client first first x old → HasDrawn scene client first first x new
 sheet_pushed scene client first x old new s items sheet h = record {
   context = h.context;
-  over = λ k m lt. elim (cases_lt k (length old)) [
-    | inl less ↦
-        let same : slice_index_or new k m ≡ slice_index_or old k m = ap (λ ls. slice_index_or ls k m) items ∙ get_or_append_left old (s ∷ []) m k less in
-        subst (IsSheet (window_rect scene.decl.width scene.decl.height)) (sym same) (h.over k m less)
-    | inr ge ↦
-        let at : k ≡ length old + 0 = omega (arith, lt, ge, ap length items, length-append old (s ∷ [])) in
-        let same : slice_index_or new k m ≡ s = ap (λ ls. slice_index_or ls k m) items ∙ ap (λ j. slice_index_or (old ++ s ∷ []) j m) at ∙ get_or-append-add old (s ∷ []) 0 m in
-        subst (IsSheet (window_rect scene.decl.width scene.decl.height)) (sym same) sheet
-  ];
-  room = omega arith;
-  each = λ k m less. absurd (omega (arith, less));
+  layers = record {
+    over = λ k m lt. elim (cases_lt k (length old)) [
+      | inl less ↦
+          let same : slice_index_or new k m ≡ slice_index_or old k m = ap (λ ls. slice_index_or ls k m) items ∙ get_or_append_left old (s ∷ []) m k less in
+          subst (IsSheet (window_rect scene.decl.width scene.decl.height)) (sym same) (h.layers.over k m less)
+      | inr ge ↦
+          let at : k ≡ length old + 0 = omega (arith, lt, ge, ap length items, length-append old (s ∷ [])) in
+          let same : slice_index_or new k m ≡ s = ap (λ ls. slice_index_or ls k m) items ∙ ap (λ j. slice_index_or (old ++ s ∷ []) j m) at ∙ get_or-append-add old (s ∷ []) 0 m in
+          subst (IsSheet (window_rect scene.decl.width scene.decl.height)) (sym same) sheet
+    ];
+    room = omega arith;
+    each = λ k m less. absurd (omega (arith, less));
+  };
 }
+
+-- sheets of the window hold the layers of no frames
+pub no_frames : (scene : Scene) (client frame : ℕ) (sheets : List Sheet) → AreSheets scene sheets → HoldLayers scene client frame frame sheets
+no_frames scene client frame sheets over = record { over = over; room = omega arith; each = λ k s less. absurd (omega (arith, less)) }
 
 -- a batch is done with
-pub drawn_on : (scene : Scene) (first end : ℕ) (players : List Player) → HaveDrawn scene first end players → HaveDrawn scene end end players
-drawn_on scene first end players h = record {
-  count = h.count;
-  each = λ client p lt.
-      let had = h.each client p lt in record { context = had.context; over = had.over; room = omega arith; each = λ k s less. absurd (omega (arith, less)) };
-}
+pub layers_done : (scene : Scene) (first end : ℕ) (layers : List ClientLayers) → HoldEach scene first end layers → HoldEach scene end end layers
+layers_done scene first end layers h = record { count = h.count; each = λ client l lt. no_frames scene client end _ (h.each client l lt).over }
 
-module _ (scene : Scene) (first frame end client : ℕ) (players : List Player) (p : Player) (low : first ≤ frame) (less : frame < end) (h : HaveDrawn scene first end players)
-    (lt : client < length players) (is : p ≡ slice_index_or players client p) where
-  had : HasDrawn scene client first end p.context p.sheets.items
-  had = subst (λ (q : Player). HasDrawn scene client first end q.context q.sheets.items) (sym is) (h.each client p (omega (arith, lt, h.count)))
+module _ (scene : Scene) (first frame end client : ℕ) (layers : List ClientLayers) (l : ClientLayers) (low : first ≤ frame) (less : frame < end) (h : HoldEach scene first end layers)
+    (lt : client < length layers) (is : l ≡ slice_index_or layers client l) where
+  had : HoldLayers scene client first end l.sheets.items
+  had = subst (λ (m : ClientLayers). HoldLayers scene client first end m.sheets.items) (sym is) (h.each client l (omega (arith, lt, h.count)))
 
   -- a client has the sheet of a frame of the batch
-  pub sheet_inside : frame - first < length p.sheets.items
+  pub sheet_inside : frame - first < length l.sheets.items
   sheet_inside = omega (arith, low, less, had.room)
 
-  module _ (s : Sheet) (at : s ≡ slice_index_or p.sheets.items (frame - first) s) where
+  module _ (s : Sheet) (at : s ≡ slice_index_or l.sheets.items (frame - first) s) where
     pub sheet_is : IsSheet (window_rect scene.decl.width scene.decl.height) s
     sheet_is = subst (IsSheet (window_rect scene.decl.width scene.decl.height)) (sym at) (had.over (frame - first) s sheet_inside)
 
@@ -134,13 +138,13 @@ module _ (scene : Scene) (first frame end client : ℕ) (players : List Player) 
     sheet_holds =
         let index : first + (frame - first) + 1 ≡ frame + 1 = omega (arith, low) in
         subst (λ (m : Sheet). Holds m.device (layer_pixel scene client (frame + 1))) (sym at)
-        (subst (λ j. Holds (slice_index_or p.sheets.items (frame - first) s).device (layer_pixel scene client j)) index (had.each (frame - first) s (omega (arith, low, less))))
+        (subst (λ j. Holds (slice_index_or l.sheets.items (frame - first) s).device (layer_pixel scene client j)) index (had.each (frame - first) s (omega (arith, low, less))))
 
--- one more client
-pub player_pushed : (P : ℕ → Player → Type 0) (old new : List Player) (p : Player) (n : ℕ) → length old ≡ n → new ≡ old ++ p ∷ []
-    → ((client : ℕ) (q : Player) → client < n → P client (slice_index_or old client q)) → P n p
-    → (client : ℕ) (q : Player) → client < n + 1 → P client (slice_index_or new client q)
-player_pushed P old new p n count is before here client q lt = elim (cases_lt client n) [
+-- what holds of each client below one holds of one more
+pub client_pushed : {X : Type 0} (P : ℕ → X → Type 0) (old new : List X) (p : X) (n : ℕ) → length old ≡ n → new ≡ old ++ p ∷ []
+    → ((client : ℕ) (q : X) → client < n → P client (slice_index_or old client q)) → P n p
+    → (client : ℕ) (q : X) → client < n + 1 → P client (slice_index_or new client q)
+client_pushed P old new p n count is before here client q lt = elim (cases_lt client n) [
   | inl less ↦
       let same : slice_index_or new client q ≡ slice_index_or old client q = ap (λ ls. slice_index_or ls client q) is ∙ get_or_append_left old (p ∷ []) q client (omega (arith, less, count)) in
       subst (P client) (sym same) (before client q less)
@@ -150,3 +154,27 @@ player_pushed P old new p n count is before here client q lt = elim (cases_lt cl
       let number : n ≡ client = omega (arith, lt, ge) in
       subst (P client) (sym same) (subst (λ k. P k p) number here)
 ]
+
+module _ {X : Type 0} (P : ℕ → X → Type 0) (old new : List X) (p : X) (n : ℕ) (lt : n < length old) (is : new ≡ slice_set old n p) where
+  -- one client is set: what holds of each one below it holds of it too
+  pub client_set : ((client : ℕ) (q : X) → client < n → P client (slice_index_or old client q)) → P n p
+      → (client : ℕ) (q : X) → client < n + 1 → P client (slice_index_or new client q)
+  client_set before here client q less = elim (cases_eq client n) [
+    | inl e ↦
+        let same : slice_index_or new client q ≡ p = ap (λ ls. slice_index_or ls client q) is ∙ get_or-set_at old n client p q e lt in
+        subst (P client) (sym same) (subst (λ k. P k p) (sym e) here)
+    | inr ne ↦
+        let same : slice_index_or new client q ≡ slice_index_or old client q = ap (λ ls. slice_index_or ls client q) is ∙ get_or-set_other old n client p q ne in
+        subst (P client) (sym same) (before client q (below client ne less))
+  ]
+    where
+      below : (client : ℕ) → (client ≡ n → ⊥) → client < n + 1 → client < n
+      below client ne less = elim (cases_lt client n) [ inl a ↦ a | inr ge ↦ absurd (ne (omega (arith, ge, less))) ]
+
+  -- and what holds of those behind it still does
+  pub clients_left : ((client : ℕ) (q : X) → n ≤ client → client < length old → P client (slice_index_or old client q))
+      → (client : ℕ) (q : X) → n + 1 ≤ client → client < length new → P client (slice_index_or new client q)
+  clients_left before client q ge less =
+      let same : slice_index_or new client q ≡ slice_index_or old client q =
+      ap (λ ls. slice_index_or ls client q) is ∙ get_or-set_other old n client p q (λ e. omega (arith, ge, e)) in
+      subst (P client) (sym same) (before client q (omega (arith, ge)) (omega (arith, less, ap length is, length-set old n p)))

@@ -28,6 +28,7 @@ use Rattle.sort_last.specs.declared.apart.ClientNames.{ClientNames}
 use Rattle.sort_last.specs.declared.play.DrawPass.{DrawPass}
 use Rattle.sort_last.specs.declared.play.DrawPass.TheVariants as pass
 use Rattle.sort_last.specs.declared.player.Player.{Player}
+use Rattle.sort_last.specs.declared.sheet.ClientLayers.{ClientLayers}
 use Rattle.sort_last.specs.declared.sheet.Sheet.{Sheet}
 
 abbrev pub shows_effect : DrawPass → Effect → Bool
@@ -116,12 +117,16 @@ pub record IsSheet (rect : Rect) (s : Sheet) : Type 0 where
 abbrev pub AreSheets : Scene → List Sheet → Type 0
 AreSheets scene sheets = (k : ℕ) (s : Sheet) → k < length sheets → IsSheet (scene_window scene) (slice_index_or sheets k s)
 
--- A client has drawn its frames from 0 up to below `end`, and its sheets hold the layers of those from `first` on: its context stands behind them.
-pub record HasDrawn (scene : Scene) (client first end : ℕ) (x : ClientContext) (sheets : List Sheet) : Type 0 where
-  pub context : x ≡ context_after scene client (start_of (sync_row_of scene client).ops end)
+-- The sheets hold a client's layers of its frames from `first` to below `end`, from the first sheet on. The spare ones behind them are sheets of the window too.
+pub record HoldLayers (scene : Scene) (client first end : ℕ) (sheets : List Sheet) : Type 0 where
   pub over : AreSheets scene sheets
   pub room : end ≤ first + length sheets
   pub each : (k : ℕ) (s : Sheet) → first + k < end → Holds (slice_index_or sheets k s).device (layer_pixel scene client (first + k + 1))
+
+-- A client has drawn its frames from 0 up to below `end`, and its sheets hold the layers of those from `first` on: its context stands behind them.
+pub record HasDrawn (scene : Scene) (client first end : ℕ) (x : ClientContext) (sheets : List Sheet) : Type 0 where
+  pub context : x ≡ context_after scene client (start_of (sync_row_of scene client).ops end)
+  pub layers : HoldLayers scene client first end sheets
 
 -- a client has drawn its frames up to below one, and has sheets with those of the batch among them
 abbrev pub HasPlayed : Batch → ℕ → ℕ → Player → Type 0
@@ -147,18 +152,30 @@ HasSheets b p = b.end ≤ b.first + length p.sheets.items
 abbrev pub AreWhole : List Player → Type 0
 AreWhole players = (k : ℕ) (p : Player) → k < length players → (slice_index_or players k p).whole ≡ true
 
--- each client has
+-- each client has drawn its frames up to below one, and its sheets hold the layers of those from another on
 pub record HaveDrawn (scene : Scene) (first end : ℕ) (players : List Player) : Type 0 where
   pub count : length players ≡ length scene.streams
   pub each : (client : ℕ) (p : Player) → client < length scene.streams
       → HasDrawn scene client first end (slice_index_or players client p).context (slice_index_or players client p).sheets.items
 
--- each client has drawn its layers of the batch
-abbrev pub HaveLayers : Batch → List Player → Type 0
-HaveLayers b players = HaveDrawn b.scene.now b.first b.end players
-
--- each client has that had memory for it
+-- each client has drawn them that had memory for it
 pub record AreDrawn (scene : Scene) (first end : ℕ) (players : List Player) : Type 0 where
   pub count : length players ≡ length scene.streams
   pub each : (client : ℕ) (p : Player) → client < length scene.streams → (slice_index_or players client p).whole ≡ true
       → HasDrawn scene client first end (slice_index_or players client p).context (slice_index_or players client p).sheets.items
+
+-- ---- layers that are put together
+
+-- the sheets of each client hold its layers of the frames from one to below another
+pub record HoldEach (scene : Scene) (first end : ℕ) (layers : List ClientLayers) : Type 0 where
+  pub count : length layers ≡ length scene.streams
+  pub each : (client : ℕ) (l : ClientLayers) → client < length scene.streams → HoldLayers scene client first end (slice_index_or layers client l).sheets.items
+
+-- those of the batch
+abbrev pub HaveLayers : Batch → List ClientLayers → Type 0
+HaveLayers b layers = HoldEach b.scene.now b.first b.end layers
+
+-- a batch of the same scene begins where another one ends
+pub record Follows (b next : Batch) : Type 0 where
+  pub scene : next.scene.now ≡ b.scene.now
+  pub first : next.first ≡ b.end

@@ -21,6 +21,25 @@ pub(crate) struct Batch<'a> {
     pub(crate) ghost frames: { HaveFrames scene.now end },
 }
 
+impl Batch<'_> {
+    /// Those of its frames from one to below another.
+    pub(crate) fn part(&self, first: usize, end: usize) -> Batch<'_>
+        requires order { first ≤ end }
+        requires most { end ≤ self.now.end }
+        ensures scene { result.scene.now ≡ self.now.scene.now }
+        ensures first { result.first ≡ first }
+        ensures end { result.end ≡ end }
+    {
+        Batch {
+            scene: self.scene,
+            syncs: self.syncs,
+            shared: self.shared,
+            first,
+            end,
+        }
+    }
+}
+
 /// Names of a client, from one place to below another.
 #[derive(Clone, Copy)]
 pub(crate) struct ClientNames {

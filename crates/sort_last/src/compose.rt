@@ -10,11 +10,12 @@ ghost use Rattle.sort_last.specs.Apart.{HaveFrames};
 ghost use Rattle.sort_last.specs.Composed.{IsComposed, IsUpTo, IsComposing};
 ghost use Rattle.sort_last.specs.Layers.{composed_pixel, layer_pixel};
 ghost use Rattle.sort_last.specs.Offends.{IsComposable};
-ghost use Rattle.sort_last.specs.Players.{scene_window, AreNear, IsInBatch, HaveDrawn, HaveLayers};
+ghost use Rattle.sort_last.specs.Players.{scene_window, AreNear, IsInBatch, HaveDrawn, HoldEach, HaveLayers, Follows};
 
 use crate::apart::Batch;
 use crate::play::{DrawPass, play};
-use crate::player::{Player, draw_batch, frame_names, player_at, players_of};
+use crate::player::{Player, draw_batch, exchange_sheets, frame_names, players_of};
+use crate::sheet::{ClientLayers, layers_at, no_layers};
 use draw_device::Device;
 use gl_context::Context;
 use rc_base::image::Frames;
@@ -23,14 +24,14 @@ use rc_base::scene::{Decl, Scene};
 use rc_base::sync::SyncLists;
 use serial_render::{show_up_to, window};
 use std::alloc::Global;
-use std::thread::Threads;
+use std::thread::{Threads, join_mut};
 use textures::SharedSet;
 
-// So many pixels of a client are drawn ahead, eight bytes each.
+// So many pixels of a client are drawn ahead, eight bytes each, and as many that were drawn before are put together meanwhile.
 const PIXELS_AHEAD: usize = 1_048_576;
 
-// How many frames are drawn ahead in a window: as many as a client's layers of them have a million pixels, and one at least. So threads are started once for
-// much work, also where frames are small.
+// How many frames are drawn ahead in a window: as many as a client's layers of them have a million pixels, and one at least. So threads are started
+// once for much work, also where frames are small.
 fn frames_ahead(decl: &Decl) -> usize
     ensures { 0 < result }
 {
@@ -44,9 +45,10 @@ fn frames_ahead(decl: &Decl) -> usize
 
 // Where a batch of so many frames ends, or the last frame.
 fn batch_end(first: usize, ahead: usize, count: usize) -> usize
-    requires first { first < count }
+    requires first { first ≤ count }
     requires ahead { 0 < ahead }
-    ensures some { first < result }
+    ensures least { first ≤ result }
+    ensures some { first < count → first < result }
     ensures most { result ≤ count }
 {
     if count - first < ahead {
@@ -57,9 +59,9 @@ fn batch_end(first: usize, ahead: usize, count: usize) -> usize
 }
 
 // A frame's layers, clients rising, are put before the window where they are nearer.
-fn put_layers(batch: &Batch<'_>, players: &[Player], device: &mut Device, frame: usize)
+fn put_layers(batch: &Batch<'_>, layers: &[ClientLayers], device: &mut Device, frame: usize)
     requires frame { IsInBatch batch.now frame }
-    requires players { HaveLayers batch.now players.now }
+    requires layers { HaveLayers batch.now layers.now }
     requires rect { device.old.rect ≡ scene_window batch.now.scene.now }
     requires near { AreNear device.old }
     ensures rect { device.new.rect ≡ device.old.rect }
@@ -67,31 +69,32 @@ fn put_layers(batch: &Batch<'_>, players: &[Player], device: &mut Device, frame:
         (map (λ c. layer_pixel batch.now.scene.now c (frame + 1) x y)
         (range_with_len 0 (length batch.now.scene.now.streams)))) device.old device.new }
 {
-    for client in 0..players.len() {
-        player_at(players, client)
+    for client in 0..layers.len() {
+        layers_at(layers, client)
             .layer(frame - batch.first)
             .put_before(device);
     }
 }
 
-/// Clients that draw their layers, and the window and the frames that come of them.
+/// The window, the layers that are put together in it, and the frames that come of them.
 #[derive(Drop)]
-struct Composition {
-    players: Vec<Player>,
+struct Window {
+    /// Those of each client.
+    layers: Vec<ClientLayers>,
     /// The context of client 0 behind the Clears that were carried out on the window.
     clears: Context,
     device: Device,
     frames: Frames,
 }
 
-impl Composition {
+impl Window {
     // Before the first frame.
-    fn new(alloc: Global, scene: &Scene) -> Result<Composition, OutOfMemory>
-        ensures players { IfOk result (λ c. HaveDrawn scene.now 0 0 c.players.items) }
-        ensures composed { IfOk result (λ c. IsComposed scene.now 0 c) }
+    fn new(alloc: Global, scene: &Scene) -> Result<Window, OutOfMemory>
+        ensures layers { IfOk result (λ w. HoldEach scene.now 0 0 w.layers.items) }
+        ensures composed { IfOk result (λ w. IsComposed scene.now 0 w) }
     {
-        Ok(Composition {
-            players: players_of(alloc, scene)?,
+        Ok(Window {
+            layers: no_layers(alloc, scene)?,
             clears: Context::new(alloc, &scene.decl)?,
             device: Device::new(alloc, window(&scene.decl))?,
             frames: Frames::new(alloc),
@@ -117,7 +120,7 @@ impl Composition {
             &mut self.clears,
             &mut self.device,
         )?;
-        put_layers(batch, self.players.as_slice(), &mut self.device, frame);
+        put_layers(batch, self.layers.as_slice(), &mut self.device, frame);
         show_up_to(
             alloc,
             &batch.scene.decl,
@@ -128,46 +131,126 @@ impl Composition {
         Ok(())
     }
 
-    // The frames of the batch: each client draws its layers of them, and then they are put together frame by frame and shown.
-    fn show_batch(
-        &mut self,
-        rt: &(impl Threads + Sync),
-        alloc: Global,
-        batch: &Batch<'_>,
-    ) -> Result<(), OutOfMemory>
-        requires { IsUpTo batch.now.scene.now batch.now.first self.old }
-        ensures { OnOk result (IsUpTo batch.now.scene.now batch.now.end self.new) }
+    // The frames of the batch, one after the other.
+    fn compose(&mut self, alloc: Global, batch: &Batch<'_>) -> Result<(), OutOfMemory>
+        requires { IsComposing batch.now batch.now.first self.old }
+        ensures { OnOk result (IsComposing batch.now batch.now.end self.new) }
     {
-        draw_batch(rt, alloc, batch, self.players.as_mut_slice())?;
         for frame in batch.first..batch.end {
             self.compose_frame(alloc, batch, frame)?;
         }
         Ok(())
     }
+}
 
-    // The same in batches of so many frames as are drawn ahead.
+// The layers of a batch are put together and shown in a thread of its own, while each client draws its layers of the next batch. Where either lacks
+// memory, both have ended before that is answered.
+fn compose_beside(
+    rt: &(impl Threads + Sync),
+    alloc: Global,
+    batch: &Batch<'_>,
+    next: &Batch<'_>,
+    window: &mut Window,
+    players: &mut [Player],
+) -> Result<(), OutOfMemory>
+    requires window { IsComposing batch.now batch.now.first window.old }
+    requires players { HaveDrawn next.now.scene.now next.now.first next.now.first players.old }
+    ensures window { OnOk result (IsComposing batch.now batch.now.end window.new) }
+    ensures players { OnOk result (HaveDrawn next.now.scene.now next.now.first next.now.end players.new) }
+{
+    let mut compose = || -> Result<(), OutOfMemory>
+        requires { IsComposing batch.now batch.now.first window.now }
+        ensures { OnOk result (IsComposing batch.entry.now batch.entry.now.end window.exit.now) }
+    { window.compose(alloc, batch) };
+    let mut draw = || -> Result<(), OutOfMemory>
+        requires { HaveDrawn next.now.scene.now next.now.first next.now.first players.now }
+        ensures { OnOk result
+            (HaveDrawn next.entry.now.scene.now next.entry.now.first next.entry.now.end players.exit.now) }
+    { draw_batch(rt, alloc, next, players) };
+    let (composed, drawn) = join_mut(rt, &mut compose, &mut draw);
+    composed?;
+    drawn
+}
+
+/// Clients that draw their layers of a batch of frames, and the window, in which those of the batch before it are put together meanwhile.
+#[derive(Drop)]
+struct Composition {
+    players: Vec<Player>,
+    window: Window,
+}
+
+impl Composition {
+    // Before the first frame.
+    fn new(alloc: Global, scene: &Scene) -> Result<Composition, OutOfMemory>
+        ensures { IfOk result (λ c. IsUpTo scene.now 0 0 c) }
+    {
+        Ok(Composition {
+            players: players_of(alloc, scene)?,
+            window: Window::new(alloc, scene)?,
+        })
+    }
+
+    // The layers of the first batch, with nothing to put together beside.
+    fn draw_first(
+        &mut self,
+        rt: &(impl Threads + Sync),
+        alloc: Global,
+        batch: &Batch<'_>,
+    ) -> Result<(), OutOfMemory>
+        requires { IsUpTo batch.now.scene.now batch.now.first batch.now.first self.old }
+        ensures { OnOk result (IsUpTo batch.now.scene.now batch.now.first batch.now.end self.new) }
+    {
+        draw_batch(rt, alloc, batch, self.players.as_mut_slice())
+    }
+
+    // The frames of a batch whose layers are drawn, and meanwhile the clients' layers of the batch behind it.
+    fn show_batch(
+        &mut self,
+        rt: &(impl Threads + Sync),
+        alloc: Global,
+        batch: &Batch<'_>,
+        next: &Batch<'_>,
+    ) -> Result<(), OutOfMemory>
+        requires next { Follows batch.now next.now }
+        requires before { IsUpTo batch.now.scene.now batch.now.first batch.now.end self.old }
+        ensures { OnOk result (IsUpTo batch.now.scene.now batch.now.end next.now.end self.new) }
+    {
+        exchange_sheets(
+            batch,
+            self.players.as_mut_slice(),
+            self.window.layers.as_mut_slice(),
+        );
+        compose_beside(
+            rt,
+            alloc,
+            batch,
+            next,
+            &mut self.window,
+            self.players.as_mut_slice(),
+        )
+    }
+
+    // All frames, in batches of so many as are drawn ahead.
     fn show_frames(
         &mut self,
         rt: &(impl Threads + Sync),
         alloc: Global,
         all: &Batch<'_>,
     ) -> Result<(), OutOfMemory>
-        requires { IsUpTo all.now.scene.now all.now.first self.old }
-        ensures { OnOk result (IsUpTo all.now.scene.now all.now.end self.new) }
+        requires { IsUpTo all.now.scene.now all.now.first all.now.first self.old }
+        ensures { OnOk result (IsUpTo all.now.scene.now all.now.end all.now.end self.new) }
     {
         let ahead = frames_ahead(&all.scene.decl);
         let mut first = all.first;
+        let mut end = batch_end(first, ahead, all.end);
+        self.draw_first(rt, alloc, &all.part(first, end))?;
         'batches: while first < all.end {
-            let end = batch_end(first, ahead, all.end);
-            let batch = Batch {
-                scene: all.scene,
-                syncs: all.syncs,
-                shared: all.shared,
-                first,
-                end,
-            };
-            self.show_batch(rt, alloc, &batch)?;
+            let next_end = batch_end(end, ahead, all.end);
+            let batch = all.part(first, end);
+            let next = all.part(end, next_end);
+            self.show_batch(rt, alloc, &batch, &next)?;
             first = end;
+            end = next_end;
         }
         Ok(())
     }
@@ -197,5 +280,6 @@ pub(crate) fn draw_frames(
     };
     let mut composition = Composition::new(alloc, scene)?;
     composition.show_frames(rt, alloc, &all)?;
-    Ok(composition.frames)
+    let window = composition.window;
+    Ok(window.frames)
 }

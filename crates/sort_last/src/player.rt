@@ -1,11 +1,11 @@
 //! A client that draws its frames alone.
-ghost use Rattle.std.specs.Prelude.{◌≡◌, ℕ, ◌+◌, ◌<◌, ◌≤◌, length, slice_index_or, true, IfOk, OnOk};
+ghost use Rattle.std.specs.Prelude.{◌≡◌, ℕ, ◌+◌, ◌<◌, ◌≤◌, length, true, IfOk, OnOk};
 ghost use Rattle.rc_base.specs.Orders.Sync.{client_count, client_row};
-ghost use Rattle.sort_last.specs.Players.{start_of, AreNamesOf, IsInBatch, HasDrawn, IsClientIn, HasPlayed, StartsBatch, EndsBatch, HasSheets, HaveDrawn, HaveLayers, AreDrawn, AreWhole};
-ghost use Rattle.sort_last.specs.declared.player.Player.{Player as ThePlayer};
+ghost use Rattle.sort_last.specs.Players.{start_of, AreNamesOf, IsInBatch, HasDrawn, IsClientIn, HasPlayed, StartsBatch, EndsBatch, HasSheets};
+ghost use Rattle.sort_last.specs.Players.{HaveDrawn, HoldEach, HaveLayers, AreDrawn, AreWhole};
 
 use crate::apart::{Batch, ClientNames};
-use crate::sheet::Sheet;
+use crate::sheet::{ClientLayers, Sheet};
 use gl_context::Context;
 use rayon::prelude::*;
 use rc_base::out_of_memory::OutOfMemory;
@@ -59,7 +59,7 @@ pub(crate) fn frame_names(batch: &Batch<'_>, client: usize, frame: usize) -> Cli
 pub(crate) struct Player {
     /// The context behind its last frame.
     context: Context,
-    /// The layers of its last frames, from the first one of a batch on.
+    /// The layers of its last frames, from the first one of a batch on, and spare sheets.
     sheets: Vec<Sheet>,
     /// There was memory for all of them.
     whole: bool,
@@ -142,12 +142,13 @@ impl Player {
         self.whole = self.draw_each(alloc, batch, client).is_ok();
     }
 
-    /// The layer of a frame, by its place from the first frame of the batch on.
-    pub(crate) fn layer(&self, place: usize) -> &Sheet
-        requires { place < length self.now.sheets.items }
-        ensures { result.now ≡ slice_index_or self.now.sheets.items place result.now }
+    /// Its sheets and those that were put together change places.
+    fn exchange(&mut self, layers: &mut ClientLayers)
+        ensures context { self.new.context ≡ self.old.context }
+        ensures sheets { self.new.sheets ≡ layers.old.sheets }
+        ensures layers { layers.new.sheets ≡ self.old.sheets }
     {
-        &self.sheets[place]
+        std::mem::swap(&mut self.sheets, &mut layers.sheets);
     }
 }
 
@@ -160,14 +161,6 @@ pub(crate) fn players_of(alloc: Global, scene: &Scene) -> Result<Vec<Player>, Ou
         players.push(Player::new(alloc, scene)?)?;
     }
     Ok(players)
-}
-
-/// One of them.
-pub(crate) fn player_at(players: &[Player], client: usize) -> &Player
-    requires { client < length players.now }
-    ensures { (p : ThePlayer) → result.now ≡ slice_index_or players.now client p }
-{
-    &players[client]
 }
 
 // Each client draws its frames of the batch, in as many threads as there are processors.
@@ -199,6 +192,23 @@ fn are_whole(players: &[Player]) -> bool
     true
 }
 
+/// Of each client, the sheets with its layers of the batch change places with those that were put together before it.
+pub(crate) fn exchange_sheets(
+    batch: &Batch<'_>,
+    players: &mut [Player],
+    layers: &mut [ClientLayers],
+)
+    requires drawn { HaveDrawn batch.now.scene.now batch.now.first batch.now.end players.old }
+    requires spare { HoldEach batch.now.scene.now batch.now.first batch.now.first layers.old }
+    ensures players { HaveDrawn batch.now.scene.now batch.now.end batch.now.end players.new }
+    ensures layers { HaveLayers batch.now layers.new }
+{
+    let _batch = batch;
+    for client in 0..players.len() {
+        players[client].exchange(&mut layers[client]);
+    }
+}
+
 /// Each client draws its frames of the batch.
 pub(crate) fn draw_batch(
     rt: &(impl Threads + Sync),
@@ -207,7 +217,7 @@ pub(crate) fn draw_batch(
     players: &mut [Player],
 ) -> Result<(), OutOfMemory>
     requires { HaveDrawn batch.now.scene.now batch.now.first batch.now.first players.old }
-    ensures { OnOk result (HaveLayers batch.now players.new) }
+    ensures { OnOk result (HaveDrawn batch.now.scene.now batch.now.first batch.now.end players.new) }
 {
     draw_layers(rt, alloc, batch, players);
     if !are_whole(players) {

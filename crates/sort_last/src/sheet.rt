@@ -1,9 +1,11 @@
 //! A client's layer of a frame, on a device that is kept from frame to frame.
-ghost use Rattle.std.specs.Prelude.{◌≡◌, IfOk, OnOk};
+ghost use Rattle.std.specs.Prelude.{◌≡◌, ◌<◌, length, slice_index_or, IfOk, OnOk};
 ghost use Rattle.rc_base.specs.Cluster.Tiles.{window_rect};
 ghost use Rattle.rc_base.specs.Drawing.Serial.{blank_pixel};
 ghost use Rattle.serial_render.specs.Steps.{Holds};
-ghost use Rattle.sort_last.specs.Players.{StandIn, context_before, context_behind, pixel_behind, scene_window, AreNear, TakesNearer, IsSheet};
+ghost use Rattle.sort_last.specs.Players.{StandIn, context_before, context_behind, pixel_behind};
+ghost use Rattle.sort_last.specs.Players.{scene_window, AreNear, TakesNearer, IsSheet, HoldEach};
+ghost use Rattle.sort_last.specs.declared.sheet.ClientLayers.{ClientLayers as TheLayers};
 ghost use Rattle.sort_last.specs.declared.play.DrawPass.TheVariants as passes;
 
 use crate::apart::{Batch, ClientNames};
@@ -11,7 +13,7 @@ use crate::play::{DrawPass, play};
 use draw_device::{Device, PixelRun};
 use gl_context::Context;
 use rc_base::out_of_memory::OutOfMemory;
-use rc_base::scene::Decl;
+use rc_base::scene::{Decl, Scene};
 use serial_render::window;
 use std::alloc::Global;
 
@@ -64,4 +66,41 @@ impl Sheet {
     {
         window.take_nearer(&self.device, self.drawn);
     }
+}
+
+/// A client's sheets that are put together: the layers of a batch's frames, from its first one on, and spare sheets.
+#[derive(Drop)]
+pub(crate) struct ClientLayers {
+    pub(crate) sheets: Vec<Sheet>,
+}
+
+impl ClientLayers {
+    /// The layer of a frame, by its place from the first frame of the batch on.
+    pub(crate) fn layer(&self, place: usize) -> &Sheet
+        requires { place < length self.now.sheets.items }
+        ensures { result.now ≡ slice_index_or self.now.sheets.items place result.now }
+    {
+        &self.sheets[place]
+    }
+}
+
+/// The layers of each client before the first frame: none.
+pub(crate) fn no_layers(alloc: Global, scene: &Scene) -> Result<Vec<ClientLayers>, OutOfMemory>
+    ensures { IfOk result (λ v. HoldEach scene.now 0 0 v.items) }
+{
+    let mut layers = Vec::new(alloc);
+    for _ in 0..scene.streams.len() {
+        layers.push(ClientLayers {
+            sheets: Vec::new(alloc),
+        })?;
+    }
+    Ok(layers)
+}
+
+/// Those of one client.
+pub(crate) fn layers_at(layers: &[ClientLayers], client: usize) -> &ClientLayers
+    requires { client < length layers.now }
+    ensures { (l : TheLayers) → result.now ≡ slice_index_or layers.now client l }
+{
+    &layers[client]
 }

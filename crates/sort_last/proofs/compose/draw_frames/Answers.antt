@@ -22,4 +22,4 @@ invariant_of-all g c =
 
 pub show_frames-requires : goal.show_frames-requires
 show_frames-requires g c =
-    (search rules, record { players = c.in_ok-composition.ensures.players; composed = c.in_ok-composition.ensures.composed })
+    (search rules, c.in_ok-composition.ensures)

@@ -18,15 +18,15 @@ loop-client-init c = record { rect = refl; drawn = λ x y inside. refl }
 pub layer-requires : goal.layer-requires
 layer-requires c =
     let a = c.args in
-    sheet_inside a.batch.now.scene.now a.batch.now.first a.frame a.batch.now.end c.loop-client.client a.players.now c.player_at.result.now c.requires.frame.low c.requires.frame.less c.requires.players
-    (omega (arith, c.loop-client-test.true)) (c.player_at.ensures c.player_at.result.now)
+    sheet_inside a.batch.now.scene.now a.batch.now.first a.frame a.batch.now.end c.loop-client.client a.layers.now c.layers_at.result.now c.requires.frame.low c.requires.frame.less c.requires.layers
+    (omega (arith, c.loop-client-test.true)) (c.layers_at.ensures c.layers_at.result.now)
 
 pub put_before-requires-clause-sheet : goal.put_before-requires-clause-sheet
 put_before-requires-clause-sheet c =
     let a = c.args in
     subst (λ (r : Rect). IsSheet r c.layer.result.now) (sym (c.loop-client.invariant.rect ∙ c.requires.rect))
-    (sheet_is a.batch.now.scene.now a.batch.now.first a.frame a.batch.now.end c.loop-client.client a.players.now c.player_at.result.now c.requires.frame.low c.requires.frame.less c.requires.players
-    (omega (arith, c.loop-client-test.true)) (c.player_at.ensures c.player_at.result.now) c.layer.result.now c.layer.ensures)
+    (sheet_is a.batch.now.scene.now a.batch.now.first a.frame a.batch.now.end c.loop-client.client a.layers.now c.layers_at.result.now c.requires.frame.low c.requires.frame.less c.requires.layers
+    (omega (arith, c.loop-client-test.true)) (c.layers_at.ensures c.layers_at.result.now) c.layer.result.now c.layer.ensures)
 
 pub put_before-requires-clause-near : goal.put_before-requires-clause-near
 put_before-requires-clause-near c x y inside =
@@ -42,10 +42,10 @@ loop-client-preserved c =
     let s = a.batch.now.scene.now in
     let i = c.loop-client.invariant in
     let client = c.loop-client.client in
-    let lt : client < length a.players.now = omega (arith, c.loop-client-test.true) in
+    let lt : client < length a.layers.now = omega (arith, c.loop-client-test.true) in
     let sheet = c.layer.result.now in
-    let is = sheet_is s a.batch.now.first a.frame a.batch.now.end client a.players.now c.player_at.result.now c.requires.frame.low c.requires.frame.less c.requires.players lt (c.player_at.ensures c.player_at.result.now) sheet c.layer.ensures in
-    let holds = sheet_holds s a.batch.now.first a.frame a.batch.now.end client a.players.now c.player_at.result.now c.requires.frame.low c.requires.frame.less c.requires.players lt (c.player_at.ensures c.player_at.result.now) sheet c.layer.ensures in
+    let is = sheet_is s a.batch.now.first a.frame a.batch.now.end client a.layers.now c.layers_at.result.now c.requires.frame.low c.requires.frame.less c.requires.layers lt (c.layers_at.ensures c.layers_at.result.now) sheet c.layer.ensures in
+    let holds = sheet_holds s a.batch.now.first a.frame a.batch.now.end client a.layers.now c.layers_at.result.now c.requires.frame.low c.requires.frame.less c.requires.layers lt (c.layers_at.ensures c.layers_at.result.now) sheet c.layer.ensures in
     record {
       rect = c.put_before.ensures.rect ∙ i.rect;
       drawn = λ x y inside.
@@ -60,6 +60,6 @@ loop-client-preserved c =
 pub returns-clause-drawn : goal.returns-clause-drawn
 returns-clause-drawn c x y inside =
     let a = c.args in
-    let all : c.loop-client.client ≡ length a.batch.now.scene.now.streams = omega (arith, c.loop-client-test.false, c.loop-client.auto.client-end, c.requires.players.count) in
+    let all : c.loop-client.client ≡ length a.batch.now.scene.now.streams = omega (arith, c.loop-client-test.false, c.loop-client.auto.client-end, c.requires.layers.count) in
     c.loop-client.invariant.drawn x y inside
     ∙ ap (λ n. fold nearer (pixel_of a.device.now x y) (map (λ k. layer_pixel a.batch.now.scene.now k (a.frame + 1) x y) (range_with_len 0 n))) all

@@ -24,7 +24,7 @@ pub draw-requires-clause-sheet : goal.draw-requires-clause-sheet
 draw-requires-clause-sheet c =
     let b = c.args.batch.now in
     subst (IsSheet (scene_window b.scene.now)) (sym c.index_mut.ensures.value)
-    (c.requires.before.over (c.args.frame - b.first) c.index_mut.result.now (omega (arith, c.requires.room, c.requires.frame.low, c.requires.frame.less)))
+    (c.requires.before.layers.over (c.args.frame - b.first) c.index_mut.result.now (omega (arith, c.requires.room, c.requires.frame.low, c.requires.frame.less)))
 
 pub returns-clause-room : goal.returns-clause-room
 returns-clause-room c = omega (arith, c.requires.room, length-set c.args.self.now.sheets.items (c.args.frame - c.args.batch.now.first) c.draw.new.self)

@@ -10,7 +10,7 @@ use Rattle.sort_last.specs.Players.{shows, draw_if}
 use Rattle.sort_last.specs.declared.play.DrawPass.TheVariants as pass
 use Rattle.sort_last.proofs.ComposedFrames.{background_near, composed_next}
 use Rattle.sort_last.proofs.DrawnFrames.{some_streams}
-use Rattle.sort_last.proofs.compose.Composition.compose_frame.Goals as goal
+use Rattle.sort_last.proofs.compose.Window.compose_frame.Goals as goal
 
 pub frame_names-names-requires-clause-client : goal.frame_names-names-requires-clause-client
 frame_names-names-requires-clause-client c = some_streams c.args.batch.now.scene.now c.args.batch.now.ready.within
@@ -58,7 +58,7 @@ returns c =
     let shown = c.in_ok-show_up_to.ensures in
     let count : length c.show_up_to.new.frames ≡ frame + 1 = omega (arith, shown.count, before.count) in
     record {
-      players = c.requires.before.players;
+      layers = c.requires.before.layers;
       composed = record {
         clears = played.context ∙ (λ i. context_after s (n.client_is i) (n.to_is i));
         rect = c.put_layers.ensures.rect ∙ played.rect ∙ before.rect;

@@ -3,7 +3,7 @@ use Rattle.rc_base.specs.Cluster.Tiles.{is_in_rect}
 use Rattle.rc_base.specs.declared.window.Rect.{Rect}
 use Rattle.gl_context.proofs.OneMoreCommand.{begins}
 use Rattle.sort_last.proofs.FramesOfRuns.{blank_frame}
-use Rattle.sort_last.proofs.compose.Composition.new.Goals as goal
+use Rattle.sort_last.proofs.compose.Window.new.Goals as goal
 
 pub returns-clause-composed : goal.returns-clause-composed
 returns-clause-composed c =
