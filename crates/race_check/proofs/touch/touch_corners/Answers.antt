@@ -66,8 +66,8 @@ returns-in-No-clause-touches c = record {
 pub vertices_at-vertices-requires : goal.vertices_at-vertices-requires
 vertices_at-vertices-requires c = subst (λ (vs : List Vertex). AreBelow (length vs) c.args.corners) (sym c.as_slice.ensures) c.requires.corners
 
-pub uncut_near-requires : goal.uncut_near-requires
-uncut_near-requires c = subst (λ (vs : List Vertex). AreBelow (length vs) c.args.corners) (sym c.requires.vertices) c.requires.corners
+pub uncut_near-requires-clause-corners : goal.uncut_near-requires-clause-corners
+uncut_near-requires-clause-corners c = subst (λ (vs : List Vertex). AreBelow (length vs) c.args.corners) (sym c.requires.vertices) c.requires.corners
 
 pub returns-in-Whole-clause-touches : goal.returns-in-Whole-clause-touches
 returns-in-Whole-clause-touches c = record {
