@@ -19,6 +19,7 @@ mod near;
 mod products;
 #[cfg(test)]
 mod rectangles;
+#[cfg(test)]
 mod reject;
 #[cfg(test)]
 mod stages;
