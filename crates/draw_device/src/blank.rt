@@ -1,5 +1,5 @@
 //! The pixels of a grid that something was drawn at, and pixels that become blank again.
-ghost use Rattle.std.specs.Prelude.{◌≡◌, ℕ, ◌<◌, ◌≤◌, length};
+ghost use Rattle.std.specs.Prelude.{◌≡◌, ℕ, ◌+◌, ◌<◌, ◌≤◌, true, length};
 ghost use Rattle.rc_base.specs.Drawing.Serial.{blank_pixel};
 ghost use Rattle.rc_base.specs.Drawing.Window.{depth_most};
 ghost use Rattle.draw_device.specs.Beside.{EachIn, StayBefore, StayBehind};
@@ -28,13 +28,60 @@ pub(crate) const BLANK: Pixel = Pixel {
     depth: FAR,
 };
 
+// So many depths are looked at together.
+const STEP: usize = 32;
+
+// Whether each depth of a step from this place on is the far end.
+fn are_far(depths: &[u32], from: usize) -> bool
+    requires { from + 32 ≤ length depths.now }
+    ensures { result ≡ true → EachIn from (from + 32) (λ k. depth_at depths.now k ≡ depth_most) }
+{
+    let mut far = true;
+    for k in from..from + STEP {
+        far &= depths[k] == FAR;
+    }
+    far
+}
+
+// A place before which nothing is nearer than the far end. The first such place is less than a step from it, or there is none in a whole step.
+fn passed_front(depths: &[u32]) -> usize
+    ensures most { result ≤ length depths.now }
+    ensures far { (k : ℕ) → k < result → depth_at depths.now k ≡ depth_most }
+{
+    let steps = depths.len() / STEP;
+    for step in 0..steps {
+        if !are_far(depths, step * STEP) {
+            return step * STEP;
+        }
+    }
+    steps * STEP
+}
+
+// A place behind which nothing is so.
+fn passed_back(depths: &[u32], from: usize) -> usize
+    requires { from ≤ length depths.now }
+    ensures order { from ≤ result }
+    ensures most { result ≤ length depths.now }
+    ensures far { EachIn result (length depths.now) (λ k. depth_at depths.now k ≡ depth_most) }
+{
+    let count = depths.len();
+    let steps = (count - from) / STEP;
+    for step in 0..steps {
+        let end = count - step * STEP;
+        if !are_far(depths, end - STEP) {
+            return end;
+        }
+    }
+    count - steps * STEP
+}
+
 // The first place whose depth is nearer than the far end, or the number of all.
 fn drawn_start(depths: &[u32]) -> usize
     ensures most { result ≤ length depths.now }
     ensures far { (k : ℕ) → k < result → depth_at depths.now k ≡ depth_most }
 {
     let count = depths.len();
-    for k in 0..count {
+    for k in passed_front(depths)..count {
         if depths[k] != FAR {
             return k;
         }
@@ -49,9 +96,9 @@ fn drawn_end(depths: &[u32], from: usize) -> usize
     ensures most { result ≤ length depths.now }
     ensures far { EachIn result (length depths.now) (λ k. depth_at depths.now k ≡ depth_most) }
 {
-    let count = depths.len();
-    for passed in 0..count - from {
-        let k = count - 1 - passed;
+    let end = passed_back(depths, from);
+    for passed in 0..end - from {
+        let k = end - 1 - passed;
         if depths[k] != FAR {
             return k + 1;
         }

@@ -5,5 +5,5 @@ use Rattle.draw_device.proofs.blank.drawn_end.Given as goal
 
 abbrev pub invariant-loop-passed : goal.invariant-loop-passed
 invariant-loop-passed l = record {
-  far : (j : ℕ) → length l.depths ≤ j + l.passed → j < length l.depths → depth_at l.depths j ≡ depth_most;
+  far : (j : ℕ) → l.end ≤ j + l.passed → j < length l.depths → depth_at l.depths j ≡ depth_most;
 }
