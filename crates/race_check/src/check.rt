@@ -16,22 +16,23 @@ use rc_base::out_of_memory::OutOfMemory;
 use rc_base::scene::Scene;
 use rc_base::sync::{Journal, Order, SyncLists};
 use std::alloc::Global;
+use stream_replay::SceneStore;
 
 // The verdict: of one client alone nothing conflicts, and in most scenes boxes tell that all is ordered. Else the pixels are looked at.
-fn verdict_on(
+fn verdict_on<S: SceneStore>(
     alloc: Global,
-    scene: &Scene,
+    scene: &S,
     journal: &Journal,
     order: &Order,
     syncs: &SyncLists,
 ) -> Result<Verdict, OutOfMemory>
-    requires within { IsWithin scene.now }
-    requires lists { syncs.now ≡ sync_lists_of scene.now }
+    requires within { IsWithin (S.scene scene.now) }
+    requires lists { syncs.now ≡ sync_lists_of (S.scene scene.now) }
     requires maximal { IsMaximal syncs.now journal.now }
     requires permitted { IsPermitted syncs.now journal.now order.now }
-    ensures { IfOk result (IsVerdictOn scene.now syncs.now journal.now order.now) }
+    ensures { IfOk result (IsVerdictOn (S.scene scene.now) syncs.now journal.now order.now) }
 {
-    if scene.streams.len() < 2 {
+    if scene.client_count() < 2 {
         return Ok(Verdict::Ordered);
     }
     let timelines = clocks_of(alloc, journal.as_slice(), syncs)?;
@@ -59,6 +60,25 @@ pub fn check_races(
     ensures verdict { IfOk result (IsVerdictOn scene.now syncs.now journal.now order.now) }
     ensures exactly { IfOk result (λ v. SaysOrdered v ↔ NoRaces syncs.now journal.now scene.now) }
     ensures exactly_ordered { IfOk result (λ v. SaysOrdered v ↔ IsOrderedScene scene.now journal.now) }
+{
+    check_scene_races(alloc, scene, journal, order, syncs)
+}
+
+/// The same of a scene however it is stored.
+pub fn check_scene_races<S: SceneStore>(
+    alloc: Global,
+    scene: &S,
+    journal: &Journal,
+    order: &Order,
+    syncs: &SyncLists,
+) -> Result<Verdict, OutOfMemory>
+    requires within { IsWithin (S.scene scene.now) }
+    requires lists { syncs.now ≡ sync_lists_of (S.scene scene.now) }
+    requires maximal { IsMaximal syncs.now journal.now }
+    requires permitted { IsPermitted syncs.now journal.now order.now }
+    ensures verdict { IfOk result (IsVerdictOn (S.scene scene.now) syncs.now journal.now order.now) }
+    ensures exactly { IfOk result (λ v. SaysOrdered v ↔ NoRaces syncs.now journal.now (S.scene scene.now)) }
+    ensures exactly_ordered { IfOk result (λ v. SaysOrdered v ↔ IsOrderedScene (S.scene scene.now) journal.now) }
 {
     let verdict = verdict_on(alloc, scene, journal, order, syncs)?;
     Ok(verdict)

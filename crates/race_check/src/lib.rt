@@ -23,5 +23,5 @@ mod verdict;
 mod visit;
 mod walk;
 
-pub use check::check_races;
+pub use check::{check_races, check_scene_races};
 pub use verdict::{Spot, Verdict};

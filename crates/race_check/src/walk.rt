@@ -15,56 +15,58 @@ use crate::marks::Marks;
 use crate::verdict::Verdict;
 use happens_before::Timelines;
 use rc_base::out_of_memory::OutOfMemory;
-use rc_base::scene::Scene;
 use rc_base::sync::{Journal, Name, Order, SyncLists};
 use std::alloc::Global;
-use stream_replay::{Client, clients_of, issue_name, take_back};
+use stream_replay::{Client, SceneStore, clients_of, issue_name, take_back};
 
 // Carries a name out, the next one of its client, and tells what it conflicts with unordered.
-fn carry_name(
-    scene: &Scene,
+fn carry_name<S: SceneStore>(
+    scene: &S,
     clients: &mut Vec<Client>,
     marks: &mut Marks,
     timelines: &Timelines,
     name: Name,
 ) -> Result<Option<Found>, OutOfMemory>
-    requires within { IsWithin scene.now }
-    requires next { IsNextOf scene.now clients.old.items name }
+    requires within { IsWithin (S.scene scene.now) }
+    requires next { IsNextOf (S.scene scene.now) clients.old.items name }
     requires timelines { AreOrdered timelines.now.clients.items }
-    requires sized { AreSized scene.now.decl.width scene.now.decl.height marks.old }
-    ensures clients { OnOk result (HasIssued scene.now clients.old.items name clients.new.items) }
-    ensures sized { OnOk result (AreSized scene.now.decl.width scene.now.decl.height marks.new) }
+    requires sized { AreSized (S.scene scene.now).decl.width (S.scene scene.now).decl.height marks.old }
+    ensures clients { OnOk result (HasIssued (S.scene scene.now) clients.old.items name clients.new.items) }
+    ensures sized { OnOk result (AreSized
+        (S.scene scene.now).decl.width (S.scene scene.now).decl.height marks.new) }
     ensures carried { let clock = clock_of timelines.now.clients.items name in
-        IfOk result (λ told. PassesMarks (footprint_of scene.now) scene.now.decl.width scene.now.decl.height clock name marks.old marks.new told) }
+        IfOk result (λ told. PassesMarks (footprint_of (S.scene scene.now))
+        (S.scene scene.now).decl.width (S.scene scene.now).decl.height clock name marks.old marks.new told) }
 {
     let client = usize::from(name.client);
     let effect = issue_name(clients, scene, name)?;
     let state = clients[client].context.state();
-    let found = carry_out(marks, timelines, &scene.decl, name, state, &effect);
+    let found = carry_out(marks, timelines, scene.decl(), name, state, &effect);
     take_back(clients, client, effect);
     Ok(found)
 }
 
 /// The verdict on an order, by the last use of each pixel and each shared texture.
-pub fn first_race(
+pub fn first_race<S: SceneStore>(
     alloc: Global,
-    scene: &Scene,
+    scene: &S,
     journal: &Journal,
     order: &Order,
     syncs: &SyncLists,
     timelines: &Timelines,
 ) -> Result<Verdict, OutOfMemory>
-    requires within { IsWithin scene.now }
-    requires lists { syncs.now ≡ sync_lists_of scene.now }
+    requires within { IsWithin (S.scene scene.now) }
+    requires lists { syncs.now ≡ sync_lists_of (S.scene scene.now) }
     requires permitted { IsPermitted syncs.now journal.now order.now }
     requires timelines { AreOrdered timelines.now.clients.items }
     requires exact { IsExact syncs.now journal.now (clock_of timelines.now.clients.items) }
-    ensures { IfOk result (IsVerdictOn scene.now syncs.now journal.now order.now) }
+    ensures { IfOk result (IsVerdictOn (S.scene scene.now) syncs.now journal.now order.now) }
 {
     let _journal = journal;
     let _syncs = syncs;
     let mut clients = clients_of(alloc, scene)?;
-    let mut marks = Marks::new(alloc, scene.decl.width, scene.decl.height)?;
+    let decl = scene.decl();
+    let mut marks = Marks::new(alloc, decl.width, decl.height)?;
     for name in order.as_slice() {
         if let Some(found) = carry_name(scene, &mut clients, &mut marks, timelines, *name)? {
             return Ok(Verdict::Race {

@@ -6,8 +6,8 @@ use Rattle.race_check.proofs.OrdersAreChecked.{IsPassed}
 use Rattle.race_check.proofs.apart.are_apart.Given as goal
 
 abbrev pub invariant-loop-name : goal.invariant-loop-name
-invariant-loop-name l = record {
-  clients : AreIssued l.scene (take l.name-index l.fn.order) l.clients.items;
-  fits : FitWindow l.scene.decl.width l.scene.decl.height l.outlines;
-  passed : IsPassed (AreOutlined (footprint_of l.scene) l.scene.decl.width l.scene.decl.height) l.syncs l.journal (footprint_of l.scene) (take l.name-index l.fn.order) l.outlines;
+invariant-loop-name g l = record {
+  clients : AreIssued (g.S.SceneStore.scene l.scene) (take l.name-index l.fn.order) l.clients.items;
+  fits : FitWindow (g.S.SceneStore.scene l.scene).decl.width (g.S.SceneStore.scene l.scene).decl.height l.outlines;
+  passed : IsPassed (AreOutlined (footprint_of (g.S.SceneStore.scene l.scene)) (g.S.SceneStore.scene l.scene).decl.width (g.S.SceneStore.scene l.scene).decl.height) l.syncs l.journal (footprint_of (g.S.SceneStore.scene l.scene)) (take l.name-index l.fn.order) l.outlines;
 }

@@ -6,8 +6,8 @@ use Rattle.race_check.proofs.OrdersAreChecked.{IsPassed}
 use Rattle.race_check.proofs.walk.first_race.Given as goal
 
 abbrev pub invariant-loop-name : goal.invariant-loop-name
-invariant-loop-name l = record {
-  clients : AreIssued l.scene (take l.name-index l.fn.order) l.clients.items;
-  sized : AreSized l.scene.decl.width l.scene.decl.height l.marks;
-  passed : IsPassed (AreTables (footprint_of l.scene) l.scene.decl.width l.scene.decl.height) l.syncs l.journal (footprint_of l.scene) (take l.name-index l.fn.order) l.marks;
+invariant-loop-name g l = record {
+  clients : AreIssued (g.S.SceneStore.scene l.scene) (take l.name-index l.fn.order) l.clients.items;
+  sized : AreSized (g.S.SceneStore.scene l.scene).decl.width (g.S.SceneStore.scene l.scene).decl.height l.marks;
+  passed : IsPassed (AreTables (footprint_of (g.S.SceneStore.scene l.scene)) (g.S.SceneStore.scene l.scene).decl.width (g.S.SceneStore.scene l.scene).decl.height) l.syncs l.journal (footprint_of (g.S.SceneStore.scene l.scene)) (take l.name-index l.fn.order) l.marks;
 }
