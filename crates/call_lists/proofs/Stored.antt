@@ -1,6 +1,6 @@
 -- The first commands of an expansion, as more are given.
-use Rattle.std.proofs.Common.{◌≡◌, ℕ, zero, suc, ◌≤◌, List, [], ◌∷◌, ◌++◌, length, take, refl, ap, sym, ◌∙◌}
-use Rattle.std.proofs.lemmas.List.{append-nil, take_all, take_at}
+use Rattle.std.proofs.Common.{◌≡◌, ℕ, zero, suc, ◌≤◌, ◌<◌, ◌^◌, List, [], ◌∷◌, ◌++◌, length, take, refl, ap, sym, ◌∙◌, arith}
+use Rattle.std.proofs.lemmas.List.{append-nil, take_all, take_at, length-take}
 use Rattle.rc_base.specs.declared.command.Command.{Command}
 use Rattle.call_lists.specs.Expansion.{stored}
 
@@ -27,3 +27,8 @@ stored_more xs ys = take_again 1048577 xs ys
 -- no command more
 pub stored_none : (xs ys : List Command) → length xs ≤ 1048577 → ys ≡ [] → xs ≡ stored (xs ++ ys)
 stored_none xs ys short none = sym (ap (λ zs. stored (xs ++ zs)) none ∙ ap stored (append-nil xs) ∙ stored_short xs short)
+
+-- what is stored has places of 32 bits
+pub stored_few : (xs : List Command) → length (stored xs) < 2 ^ 32
+unfolding stored
+stored_few xs = omega (arith, length-take 1048577 xs)

@@ -1,5 +1,5 @@
 -- The expansions of streams, one after the other.
-use Rattle.std.proofs.Common.{◌≡◌, ℕ, zero, suc, ◌≤◌, ◌+◌, List, [], ◌∷◌, ◌++◌, ◌⊎◌, inl, inr, length, map, take, drop, refl, ap, sym, subst, ◌∙◌, arith, length-append}
+use Rattle.std.proofs.Common.{◌≡◌, ℕ, zero, suc, ◌≤◌, ◌<◌, ◌^◌, ◌+◌, List, [], ◌∷◌, ◌++◌, ◌⊎◌, inl, inr, length, map, take, drop, refl, ap, sym, subst, ◌∙◌, arith, length-append}
 use Rattle.std.specs.Prelude.{slice_get, Some, sum_by, Result, Ok, Err, IfOk, IfErr}
 use Rattle.std.specs.List.{AllByRecursion}
 use Rattle.std.proofs.lemmas.List.{take_more, take_all, map-append}
@@ -20,6 +20,7 @@ use Rattle.call_lists.specs.Streams.{HasExpanded, HasCome}
 use Rattle.call_lists.proofs.CommandsMet.{costs_then, passes_more, passes_then}
 use Rattle.call_lists.proofs.LimitPassed.{passes_once, passes_beyond}
 use Rattle.call_lists.proofs.ListsCalled.{one_more, all_of}
+use Rattle.call_lists.proofs.Stored.{stored_few}
 
 -- a plain command costs at least one
 plain_paid : (c : ListCommand) → length (plain_of c) ≤ cost_of c
@@ -59,6 +60,13 @@ unfolding expansion_of
 few_more old x stream is within few =
     let count_is : x.count ≡ length (plain_commands (met stream)) = ap (λ (y : Expansion). y.count) is in
     omega (arith, count_is, within, few, given_paid (met stream))
+
+-- what is stored of a stream has places of 32 bits
+pub few_stored : (old : Expansions) (x : Expansion) (stream : List ListCommand) → x ≡ expansion_of stream old.spent → length x.commands < 2 ^ 32
+unfolding expansion_of
+few_stored old x stream is =
+    let commands_is : x.commands ≡ stored (plain_commands (met stream)) = ap (λ (y : Expansion). y.commands) is in
+    subst (λ (commands : List Command). length commands < 2 ^ 32) (sym commands_is) (stored_few (plain_commands (met stream)))
 
 -- ---- all streams
 

@@ -2,7 +2,7 @@
 //!
 //! `specs/Expansion.antt` says which commands are met in a stream, in their order; what the stream gives, what it costs and where its costs pass
 //! their limit are read off from that list. `expand` goes along a stream once and gives these without the list, and `expand_all` does so for the
-//! streams of all clients. Stands on rc_base.
+//! streams of all clients, whose commands it keeps in the room of a `CommandStore`. Stands on rc_base and command_store.
 #![tactic(auto)]
 
 mod answer;

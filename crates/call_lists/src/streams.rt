@@ -7,16 +7,17 @@ ghost use Rattle.call_lists.specs.Streams.{HasExpanded};
 
 use crate::answer::{ExpandFault, Expansion};
 use crate::expanding::expand;
+use command_store::CommandStore;
 use rc_base::cluster::FaultLists;
+use rc_base::items::Items;
 use rc_base::list_command::{ListCommands, ListStreams};
-use rc_base::scene::Streams;
 use std::alloc::Global;
 
 /// What some streams mean.
 #[derive(Debug, Drop)]
 pub struct Expansions {
-    /// The plain commands of each stream, each list as long as an `Expansion` stores it.
-    pub streams: Streams,
+    /// The plain commands of each stream, each list as long as an `Expansion` stores it, in the room of a `CommandStore`.
+    pub streams: Items<CommandStore>,
     /// How many commands all streams mean.
     pub count: u64,
     /// The refused list commands of each stream.
@@ -25,7 +26,7 @@ pub struct Expansions {
     pub spent: u64,
 }
 
-/// Expands one stream more.
+/// Expands one stream more. Its commands stand whole only until they are stored.
 fn expand_next(
     alloc: Global,
     so_far: &mut Expansions,
@@ -43,7 +44,9 @@ fn expand_next(
         faults,
         spent,
     } = expand(alloc, stream, so_far.spent)?;
-    so_far.streams.push(commands)?;
+    let stored = CommandStore::of(alloc, commands.as_slice())?;
+    drop(commands);
+    so_far.streams.push(stored)?;
     so_far.faults.push(faults)?;
     so_far.count += count;
     so_far.spent = spent;
@@ -59,7 +62,7 @@ fn expand_each(alloc: Global, streams: &ListStreams) -> Result<Expansions, Expan
 {
     let streams = streams.as_slice();
     let mut so_far = Expansions {
-        streams: Streams::new(alloc),
+        streams: Items::new(alloc),
         count: 0,
         faults: FaultLists::new(alloc),
         spent: 0,

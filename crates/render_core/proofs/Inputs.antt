@@ -35,7 +35,9 @@ use Rattle.run_words.specs.declared.job.Origin.{Origin}
 use Rattle.run_words.specs.declared.job.Origin.TheVariants.{Read}
 use Rattle.run_words.specs.declared.refusal.InputRefusal.{InputRefusal}
 use Rattle.run_words.specs.declared.refusal.InputRefusal.TheVariants as refused
+use Rattle.render_core.specs.Stored.{meaning_in}
 use Rattle.render_core.specs.declared.work.Meaning.{Meaning}
+use Rattle.render_core.specs.declared.work.StoredMeaning.{StoredMeaning}
 use Rattle.render_core.specs.Findings.{FailsAsFound, TellsFault}
 use Rattle.scene_file.specs.Letters.{BeginWithLists}
 use Rattle.scene_file.proofs.LimitsByParts.{many_commands}
@@ -390,13 +392,13 @@ all_in_range stays (s ∷ ss) all = (stays s all.0, all_in_range stays ss all.1)
 -- ---- what is answered of them
 
 -- what an expansion means is read
-pub read_expanded : (input : List ℕ) (scene : ListScene) → SpellsListScene input scene → (r : Result Meaning InputRefusal) → IfOk r (IsExpanded scene)
-    → IfOk r (IsRead Bytes input)
+pub read_expanded : (input : List ℕ) (scene : ListScene) → SpellsListScene input scene → (r : Result StoredMeaning InputRefusal) → IfOk r (λ x. IsExpanded scene (meaning_in x))
+    → IfOk r (λ x. IsRead Bytes input (meaning_in x))
 read_expanded input scene spelled (Ok x) is = record { found = Lists scene; spelled = spelled; within = is.1; means = is.0 }
 read_expanded input scene spelled (Err refusal) is = tt
 
 pub well_expanded : ExpansionsStayInRange → (scene : ListScene) → IsDeclOf list_form scene.decl → AllByRecursion (AllByRecursion IsListCommand) scene.streams
-    → (r : Result Meaning InputRefusal) → IfOk r (IsExpanded scene) → IfOk r (λ x. IsWellRead Bytes x.scene)
+    → (r : Result StoredMeaning InputRefusal) → IfOk r (λ x. IsExpanded scene (meaning_in x)) → IfOk r (λ x. IsWellRead Bytes x.scene)
 well_expanded stays scene decl commands (Ok x) is =
     subst (IsWellRead Bytes) (sym is.0.scene) (
       record {
@@ -414,7 +416,7 @@ well_expanded stays scene decl commands (Ok x) is =
     )
 well_expanded stays scene decl commands (Err refusal) is = tt
 
-pub within_expanded : (scene : ListScene) (r : Result Meaning InputRefusal) → IfOk r (IsExpanded scene) → IfOk r (λ x. limit_of x.scene ≡ None)
+pub within_expanded : (scene : ListScene) (r : Result StoredMeaning InputRefusal) → IfOk r (λ x. IsExpanded scene (meaning_in x)) → IfOk r (λ x. limit_of x.scene ≡ None)
 within_expanded scene (Ok x) is = subst (λ (s : Scene). limit_of s ≡ None) (sym is.0.scene) (meant_within (Lists scene) is.1)
 within_expanded scene (Err refusal) is = tt
 
@@ -438,7 +440,7 @@ past_refused input short scene spelled (refused.PastLimit limit) past =
     inr (λ task reads. judged_outside task input short Bytes reads (Lists scene) limit spelled past)
 past_refused input short scene spelled refused.OutOfMemory past = inl refl
 
-pub refused_expanded : (input : List ℕ) → length input ≤ byte_limit → (scene : ListScene) → SpellsListScene input scene → (r : Result Meaning InputRefusal)
+pub refused_expanded : (input : List ℕ) → length input ≤ byte_limit → (scene : ListScene) → SpellsListScene input scene → (r : Result StoredMeaning InputRefusal)
     → IfErr r (IsPast scene) → IfErr r (IsRefusedInput Bytes input)
 refused_expanded input short scene spelled (Ok x) past = tt
 refused_expanded input short scene spelled (Err refusal) past = past_refused input short scene spelled refusal past

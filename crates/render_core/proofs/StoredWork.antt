@@ -3,11 +3,12 @@ use Rattle.std.proofs.Common.{◌≡◌, ℕ, true, List, [], map, Ok, Err, refl
 use Rattle.std.specs.declared.result.Result.{Result}
 use Rattle.rc_base.specs.Outside.Ends.{Used}
 use Rattle.rc_base.specs.declared.scene.Scene.{Scene}
+use Rattle.rc_base.specs.declared.state.Fault.{Fault}
 use Rattle.spu_chain.specs.Laws.{ChainsFollow, MembersFollow}
 use Rattle.spu_chain.specs.Scenes.{counts_from, rules_after_all, scene_by}
 use Rattle.spu_chain.specs.declared.rule.SpuRule.{SpuRule}
 use Rattle.run_words.specs.Jobs.{Reads, Task, origin_of, task_of}
-use Rattle.run_words.specs.Lines.{filter_lines}
+use Rattle.run_words.specs.Lines.{filter_lines, list_fault_lines}
 use Rattle.run_words.specs.declared.job.Form.TheVariants.{Bytes}
 use Rattle.run_words.specs.declared.job.Job.{Job}
 use Rattle.run_words.specs.declared.job.Job.TheVariants.{Render, Simulate, Serial, Last, Check, Race, Pack, Unpack, Gen, Demo}
@@ -28,11 +29,11 @@ use Rattle.render_core.proofs.PlainScenes.{no_rules_behind, plain_scene}
 -- such a job reads bytes
 pub reads_bytes : (job : Job) → reads_stored job ≡ true → origin_of job ≡ Read Bytes
 reads_bytes Serial stored = refl
+reads_bytes Last stored = refl
 reads_bytes Check stored = refl
+reads_bytes Race stored = refl
 reads_bytes (Render cluster) stored = refl
 reads_bytes (Simulate seed cluster) stored = cc
-reads_bytes Last stored = cc
-reads_bytes Race stored = cc
 reads_bytes Pack stored = cc
 reads_bytes Unpack stored = cc
 reads_bytes (Gen seed size) stored = cc
@@ -47,40 +48,41 @@ module _ (members : MembersFollow) (chains : ChainsFollow) (scene : Scene) where
   counted : [] ≡ filter_lines (counts_from 0 (rules_after_all [] scene.streams))
   counted = ap (λ (rules : List SpuRule). filter_lines (counts_from 0 rules)) (sym (no_rules_behind members chains scene.streams))
 
-  alone : work_on scene [] [] ≡ work_on (scene_by [] scene) [] (filter_lines (counts_from 0 (rules_after_all [] scene.streams)))
-  alone = ap₂ (λ (x : Scene) (l : List ℕ). work_on x [] l) (sym (plain_scene members chains scene)) counted
+  module _ (faults : List (List (ℕ × Fault))) where
+    alone : work_on scene (list_fault_lines faults) [] ≡ work_on (scene_by [] scene) (list_fault_lines faults) (filter_lines (counts_from 0 (rules_after_all [] scene.streams)))
+    alone = ap₂ (λ (x : Scene) (l : List ℕ). work_on x (list_fault_lines faults) l) (sym (plain_scene members chains scene)) counted
 
-  -- a scene without call lists is worked on as it is
-  plain_work_of : (job : Job) → reads_stored job ≡ true → work_on scene [] [] ≡ work_with (task_of [] job) scene []
-  plain_work_of Serial stored = alone
-  plain_work_of Check stored = alone
-  plain_work_of (Render cluster) stored = alone
-  plain_work_of (Simulate seed cluster) stored = cc
-  plain_work_of Last stored = cc
-  plain_work_of Race stored = cc
-  plain_work_of Pack stored = cc
-  plain_work_of Unpack stored = cc
-  plain_work_of (Gen seed size) stored = cc
-  plain_work_of (Demo seed size cluster) stored = cc
+    -- a scene is worked on as it is
+    plain_work_of : (job : Job) → reads_stored job ≡ true → work_on scene (list_fault_lines faults) [] ≡ work_with (task_of [] job) scene faults
+    plain_work_of Serial stored = alone
+    plain_work_of Last stored = alone
+    plain_work_of Check stored = alone
+    plain_work_of Race stored = alone
+    plain_work_of (Render cluster) stored = alone
+    plain_work_of (Simulate seed cluster) stored = cc
+    plain_work_of Pack stored = cc
+    plain_work_of Unpack stored = cc
+    plain_work_of (Gen seed size) stored = cc
+    plain_work_of (Demo seed size cluster) stored = cc
 
   -- and leaves no rules
   plain_rules_of : (job : Job) → reads_stored job ≡ true → [] ≡ rules_for (task_of [] job) scene
   plain_rules_of Serial stored = sym (no_rules_behind members chains scene.streams)
+  plain_rules_of Last stored = sym (no_rules_behind members chains scene.streams)
   plain_rules_of Check stored = sym (no_rules_behind members chains scene.streams)
+  plain_rules_of Race stored = sym (no_rules_behind members chains scene.streams)
   plain_rules_of (Render cluster) stored = sym (no_rules_behind members chains scene.streams)
   plain_rules_of (Simulate seed cluster) stored = cc
-  plain_rules_of Last stored = cc
-  plain_rules_of Race stored = cc
   plain_rules_of Pack stored = cc
   plain_rules_of Unpack stored = cc
   plain_rules_of (Gen seed size) stored = cc
   plain_rules_of (Demo seed size cluster) stored = cc
 
-  -- so it is of members of which there are none
   module _ {B : Type 0} (f : B → SpuRule) (bs : List B) (bare : bs ≡ []) (job : Job) (stored : reads_stored job ≡ true) where
-    pub plain_work : work_on scene [] [] ≡ work_with (task_of (map f bs) job) scene []
-    plain_work =
-        subst (λ (rules : List SpuRule). work_on scene [] [] ≡ work_with (task_of rules job) scene []) (sym (ap (map f) bare)) (plain_work_of job stored)
+    pub plain_work : (faults : List (List (ℕ × Fault))) → work_on scene (list_fault_lines faults) [] ≡ work_with (task_of (map f bs) job) scene faults
+    plain_work faults =
+        subst (λ (rules : List SpuRule). work_on scene (list_fault_lines faults) [] ≡ work_with (task_of rules job) scene faults)
+        (sym (ap (map f) bare)) (plain_work_of faults job stored)
 
     pub plain_rules : map f bs ≡ rules_for (task_of (map f bs) job) scene
     plain_rules = subst (λ (rules : List SpuRule). rules ≡ rules_for (task_of rules job) scene) (sym (ap (map f) bare)) (plain_rules_of job stored)

@@ -16,12 +16,13 @@ ghost use Rattle.run_words.specs.declared.refusal.DueRefusal.TheVariants.{OutOfM
 
 use crate::cluster::cluster_due;
 use crate::picks::{actor_count, picks_of};
+use command_store::StoredScene;
 use frame_out::laws::frames_of_scenes_are_writable;
 use order_model::laws::{
     default_journal_is_maximal, default_orders_are_permitted, scene_lists_are_well_formed,
 };
 use order_model::record::Record;
-use race_check::{Verdict, check_races};
+use race_check::{Verdict, check_scene_races};
 use rc_base::cluster::FaultLists;
 use rc_base::command::Bytes;
 use rc_base::image::Frames;
@@ -30,7 +31,7 @@ use rc_base::scene::Scene;
 use rc_base::sync::{Journal, Name, SyncLists, Waiting};
 use run_words::job::{Cluster, Job};
 use run_words::refusal::DueRefusal;
-use run_words::{Ending, Work, race_line, short_report, short_report_with, tiles_of};
+use run_words::{Ending, Work, race_line, short_report, tiles_of};
 use scene_file::write_scene;
 use scene_text::print_scene;
 use serial_render::{RunOrder, RunTurns, Survey, render_runs, survey_scene, turns_in_runs};
@@ -76,7 +77,7 @@ pub(crate) fn due_for(alloc: Global, job: Job, work: &Work) -> Result<Due, DueRe
         Job::Simulate { seed, cluster } => simulate(alloc, work, seed, cluster),
         Job::Serial => serial_of(alloc, work),
         Job::Check => check_of(alloc, work),
-        Job::Race => race(alloc, work),
+        Job::Race => race_of(alloc, work),
         Job::Pack => pack(alloc, &work.scene),
         Job::Unpack => unpack(alloc, &work.scene),
         Job::Gen { .. } => pack(alloc, &work.scene),
@@ -151,7 +152,7 @@ fn report_of(
         → Yields (short_due (work_on scene refused.now counted.now) told.now (journal_of scene))
         result }
 {
-    Ok(short_report_with(
+    Ok(short_report(
         alloc,
         refused,
         counted,
@@ -211,13 +212,15 @@ fn undue(fault: LastFault) -> DueRefusal
 pub(crate) fn last(
     rt: &(impl Threads + Sync),
     alloc: Global,
-    work: &Work,
+    scene: &StoredScene,
+    refused: &[u8],
+    counted: &[u8],
 ) -> Result<Due, DueRefusal>
-    requires { IsReadWithin OfBytes work.now.scene }
-    ensures outcome { IfOk result (IsMadeFor ToLast work.now) }
-    ensures suits { IfOk result (λ due. IsFor ToLast work.now.scene) }
+    requires { IsReadWithin OfBytes scene.now }
+    ensures outcome { IfOk result (IsMadeFor ToLast (work_on scene.now refused.now counted.now)) }
+    ensures suits { IfOk result (λ due. IsFor ToLast scene.now) }
     ensures writable { IfOk result (λ due. IsWritable due.image) }
-    ensures refused { IfErr result (IsNoOutcome ToLast work.now.scene) }
+    ensures refused { IfErr result (IsNoOutcome ToLast scene.now) }
 {
     scene_lists_are_well_formed();
     default_journal_is_maximal();
@@ -225,14 +228,15 @@ pub(crate) fn last(
     let LastSurvey {
         survey: Survey { syncs, faults },
         offence,
-    } = survey_last(rt, alloc, &work.scene)?;
-    let run = match render_judged(rt, alloc, &work.scene, &syncs, offence) {
+    } = survey_last(rt, alloc, scene)?;
+    let run = match render_judged(rt, alloc, scene, &syncs, offence) {
         Ok(run) => run,
         Err(fault) => return Err(undue(fault)),
     };
     let notes = short_report(
         alloc,
-        work,
+        refused,
+        counted,
         faults.as_slice(),
         run.journal.as_slice(),
         b"",
@@ -303,29 +307,42 @@ fn race_ending(waiting: &Option<Waiting>, verdict: &Verdict) -> Ending
     }
 }
 
-// The short report, with what synchronisation leaves unordered.
-fn race(alloc: Global, work: &Work) -> Result<Due, DueRefusal>
-    requires { IsReadWithin OfBytes work.now.scene }
-    ensures due { MakesDue (IsMadeFor ToRace work.now) result }
+/// The short report, with what synchronisation leaves unordered.
+pub(crate) fn race<S: SceneStore>(
+    alloc: Global,
+    scene: &S,
+    refused: &[u8],
+    counted: &[u8],
+) -> Result<Due, DueRefusal>
+    requires { IsReadWithin OfBytes (S.scene scene.now) }
+    ensures due { MakesDue (IsMadeFor ToRace (work_on (S.scene scene.now) refused.now counted.now)) result }
     ensures blank { IfOk result (λ due. IsBlank due.image) }
 {
-    let run = default_of(alloc, &work.scene)?;
+    let run = default_of(alloc, scene)?;
     let order = run.order.to_order(alloc)?;
-    let verdict = check_races(alloc, &work.scene, &run.journal, &order, &run.syncs)?;
+    let verdict = check_scene_races(alloc, scene, &run.journal, &order, &run.syncs)?;
     let line = race_line(alloc, &verdict)?;
-    let notes = report_of(
-        alloc,
-        work.refused.as_slice(),
-        work.counted.as_slice(),
-        &run,
-        line.as_bytes(),
-    )?;
+    let notes = report_of(alloc, refused, counted, &run, line.as_bytes())?;
     Ok(Due {
         image: DueImage::OneText(Bytes::new(alloc)),
         notes,
         ending: race_ending(&run.waiting, &verdict),
         kept: None,
     })
+}
+
+// The same of what a task works on.
+fn race_of(alloc: Global, work: &Work) -> Result<Due, DueRefusal>
+    requires { IsReadWithin OfBytes work.now.scene }
+    ensures due { MakesDue (IsMadeFor ToRace work.now) result }
+    ensures blank { IfOk result (λ due. IsBlank due.image) }
+{
+    race(
+        alloc,
+        &work.scene,
+        work.refused.as_slice(),
+        work.counted.as_slice(),
+    )
 }
 
 // A text for the image, and nothing for the notes.

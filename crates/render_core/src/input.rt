@@ -6,15 +6,19 @@ ghost use Rattle.scene_text.specs.Text.Read.{SpellsText};
 ghost use Rattle.rc_base.specs.Outside.Transfer.{byte_limit};
 ghost use Rattle.scene_file.specs.Letters.{BeginWithLists};
 ghost use Rattle.render_core.specs.Refusals.{IsExpanded, IsPast, IsRead, IsRefusedInput};
+ghost use Rattle.render_core.specs.Stored.{meaning_in};
 ghost use Rattle.run_words.specs.Asked.{IsWellRead};
 ghost use Rattle.run_words.specs.declared.job.Form.TheVariants.{Bytes as OfBytes, PlainBytes as OfPlainBytes, Text as OfText};
 
 use crate::reader::{SceneReader, refusal_of};
-use crate::work::Meaning;
+use crate::whole::whole;
+use crate::work::{Meaning, StoredMeaning};
 use call_lists::laws::{costs_are_told, expansions_are_whole, expansions_stay_in_range};
 use call_lists::{ExpandFault, Expansions, expand_all};
+use command_store::StoredScene;
 use rc_base::cluster::FaultLists;
 use rc_base::command::Bytes;
+use rc_base::out_of_memory::OutOfMemory;
 use rc_base::scene::{Limit, Scene};
 use run_words::job::Form;
 use run_words::refusal::InputRefusal;
@@ -40,6 +44,17 @@ fn scene_of_text(alloc: Global, input: &[u8]) -> Result<Scene, InputRefusal>
 }
 
 /// A scene without call lists means itself, and none of its commands is refused before it is issued.
+pub(crate) fn stored_plain(alloc: Global, scene: StoredScene) -> StoredMeaning
+    ensures scene { result.scene ≡ scene }
+    ensures faults { result.faults ≡ [] }
+{
+    StoredMeaning {
+        scene,
+        faults: FaultLists::new(alloc),
+    }
+}
+
+/// The same, with whole commands.
 pub(crate) fn plain(alloc: Global, scene: Scene) -> Meaning
     ensures scene { result.scene ≡ scene }
     ensures faults { result.faults ≡ [] }
@@ -51,9 +66,9 @@ pub(crate) fn plain(alloc: Global, scene: Scene) -> Meaning
 }
 
 // What a scene with call lists means, or the first quantity of its expansion that is outside its range.
-fn expanded(alloc: Global, scene: ListScene) -> Result<Meaning, InputRefusal>
+fn expanded(alloc: Global, scene: ListScene) -> Result<StoredMeaning, InputRefusal>
     requires { read_limit scene.decl scene.streams ≡ None }
-    ensures means { IfOk result (IsExpanded scene) }
+    ensures means { IfOk result (λ x. IsExpanded scene (meaning_in x)) }
     ensures past { IfErr result (IsPast scene) }
 {
     costs_are_told();
@@ -68,9 +83,9 @@ fn expanded(alloc: Global, scene: ListScene) -> Result<Meaning, InputRefusal>
                 ..
             },
         ) => {
-            let scene = Scene { decl, streams };
+            let scene = StoredScene::new(decl, streams);
             match check_streams(&scene, count) {
-                Ok(()) => Ok(Meaning { scene, faults }),
+                Ok(()) => Ok(StoredMeaning { scene, faults }),
                 Err(limit) => Err(InputRefusal::PastLimit(limit)),
             }
         }
@@ -83,10 +98,10 @@ fn expanded(alloc: Global, scene: ListScene) -> Result<Meaning, InputRefusal>
 }
 
 /// What bytes mean that begin as those of a scene with call lists.
-pub(crate) fn meaning_of_lists(alloc: Global, input: &[u8]) -> Result<Meaning, InputRefusal>
+pub(crate) fn meaning_of_lists(alloc: Global, input: &[u8]) -> Result<StoredMeaning, InputRefusal>
     requires short { length input.now ≤ byte_limit }
     requires lists { BeginWithLists input.now }
-    ensures read { IfOk result (IsRead OfBytes input.now) }
+    ensures read { IfOk result (λ x. IsRead OfBytes input.now (meaning_in x)) }
     ensures well { IfOk result (λ x. IsWellRead OfBytes x.scene) }
     ensures within { IfOk result (λ x. limit_of x.scene ≡ None) }
     ensures refused { IfErr result (IsRefusedInput OfBytes input.now) }
@@ -95,6 +110,28 @@ pub(crate) fn meaning_of_lists(alloc: Global, input: &[u8]) -> Result<Meaning, I
     match read_list_scene(alloc, input) {
         Ok(scene) => expanded(alloc, scene),
         Err(fault) => Err(refusal_of(fault)),
+    }
+}
+
+// The same, with whole commands.
+fn whole_meaning_of_lists(alloc: Global, input: &[u8]) -> Result<Meaning, InputRefusal>
+    requires short { length input.now ≤ byte_limit }
+    requires lists { BeginWithLists input.now }
+    ensures read { IfOk result (IsRead OfBytes input.now) }
+    ensures well { IfOk result (λ x. IsWellRead OfBytes x.scene) }
+    ensures within { IfOk result (λ x. limit_of x.scene ≡ None) }
+    ensures refused { IfErr result (IsRefusedInput OfBytes input.now) }
+{
+    let meant = match meaning_of_lists(alloc, input) {
+        Ok(meant) => meant,
+        Err(refusal) => return Err(refusal),
+    };
+    match whole(alloc, meant.scene) {
+        Ok(scene) => Ok(Meaning {
+            scene,
+            faults: meant.faults,
+        }),
+        Err(OutOfMemory) => Err(InputRefusal::OutOfMemory),
     }
 }
 
@@ -111,7 +148,7 @@ fn meaning_of_bytes<B: SceneReader>(
     ensures refused { IfErr result (IsRefusedInput OfBytes input.now) }
 {
     if begins_with_lists(input) {
-        return meaning_of_lists(alloc, input);
+        return whole_meaning_of_lists(alloc, input);
     }
     match reader.scene_of_bytes(alloc, input) {
         Ok(scene) => Ok(plain(alloc, scene)),

@@ -20,6 +20,7 @@ pub mod refusal;
 mod run_job;
 mod steps;
 mod stored;
+mod whole;
 mod work;
 mod writing;
 

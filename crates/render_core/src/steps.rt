@@ -21,11 +21,11 @@ ghost use Rattle.render_core.specs.Runs.{IsSmallRun};
 ghost use Rattle.run_words.specs.declared.job.Job.TheVariants.{Last as ToLast};
 
 use crate::cluster::{Account, account_with};
-use crate::due::{Due, last};
+use crate::due::Due;
 use crate::generated::scene_of_seed;
 use crate::input::{meaning_of, plain};
 use crate::reader::{Alone, Beside, SceneReader};
-use crate::stored::{due_for_any, reads_stored, stored_tiles, stored_work_for};
+use crate::stored::{due_for_any, last_for, reads_stored, stored_tiles, stored_work_for};
 use crate::work::{AnyWork, Meaning, work_behind};
 use crate::writing::{told_of, untold, write_due};
 use cluster_run::{Run, run_stored, run_threads};
@@ -156,8 +156,8 @@ fn due_apart<S: Source>(
         (map (λ b. meaning b) chain.old.items) (map (λ b. meaning b) chain.new.items)
         source.old source.new IsWritableDue result }
 {
-    let work = work_for(&Beside(rt), alloc, chain, job, source)?;
-    match last(rt, alloc, &work) {
+    let work = any_work_for(&Beside(rt), alloc, chain, job, source)?;
+    match last_for(rt, alloc, work) {
         Ok(due) => Ok(due),
         Err(refusal) => Err(Refusal::Undue(refusal)),
     }
@@ -303,12 +303,12 @@ where
                 counted,
             })
         }
-        AnyWork::Stored(scene) => {
+        AnyWork::Stored { scene, refused } => {
             let layout = stored_tiles(&scene, cluster);
             let run = run_stored(rt, alloc, scene, &layout, depth, gate, image)?;
             Ok(TaskRun {
                 run,
-                refused: Bytes::new(alloc),
+                refused,
                 counted: Bytes::new(alloc),
             })
         }

@@ -33,12 +33,19 @@ pub(crate) struct Meaning {
     pub(crate) faults: FaultLists,
 }
 
+/// The same, with the scene stored in little room.
+#[derive(Drop)]
+pub(crate) struct StoredMeaning {
+    pub(crate) scene: StoredScene,
+    pub(crate) faults: FaultLists,
+}
+
 /// What a task works on, and the form in which its scene is stored.
 #[derive(Drop)]
 pub(crate) enum AnyWork {
     Whole(Work),
-    /// Behind no filter, and with no line in the report besides the scene's own.
-    Stored(StoredScene),
+    /// Behind no filter: the report has these lines of call lists before the scene's own, and none of filters.
+    Stored { scene: StoredScene, refused: Bytes },
 }
 
 // A scene that comes so goes through the filters.

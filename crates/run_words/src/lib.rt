@@ -18,7 +18,6 @@ pub use asked::{asked_past, tiles_asked, tiles_of};
 pub use notes::{conclude, note, note_refusal};
 pub use report::{
     cluster_report, cluster_report_with, filter_lines, list_fault_lines, race_line, short_report,
-    short_report_with,
 };
 pub use told::{Ending, Told};
 pub use work::Work;

@@ -7,7 +7,7 @@ ghost use Rattle.order_model.specs.Report.{fault_name as name_of_fault, refused_
 ghost use Rattle.spu_chain.specs.Scenes.{counts_from};
 ghost use Rattle.race_check.specs.declared.verdict.Verdict.TheVariants.{Race as IsRace};
 ghost use Rattle.run_words.specs.Lines.{filter_line as line_of_filter, filter_lines as lines_of_filters, list_fault_lines as lines_of_list_faults, race_line as line_of_race, spot_text as text_of_spot};
-ghost use Rattle.run_words.specs.Reports.{Yields, line_of_tile, line_of_waiting, lines_of_order, lines_of_faults, lines_of_orders, lines_of_run, lines_of_run_with, lines_of_refused, lines_of_stuck, lines_of_tiles, lines_of_turns, lines_of_turns_with, lines_of_waiting};
+ghost use Rattle.run_words.specs.Reports.{Yields, line_of_tile, line_of_waiting, lines_of_order, lines_of_faults, lines_of_orders, lines_of_run, lines_of_run_with, lines_of_refused, lines_of_stuck, lines_of_tiles, lines_of_turns_with, lines_of_waiting};
 
 use crate::work::Work;
 use order_model::record::Record;
@@ -216,8 +216,9 @@ fn stuck_lines(
     }
 }
 
-/// The short report, by a journal, with these lines of what was refused before the run and of what filters counted.
-pub fn short_report_with(
+/// The short report, by a journal: these lines of what was refused before the run, each client's refused commands, the numbers of entries and frames,
+/// these lines of what filters counted, what else is told, and who is left waiting.
+pub fn short_report(
     alloc: Global,
     refused: &[u8],
     counted: &[u8],
@@ -241,30 +242,6 @@ pub fn short_report_with(
     report.extend_from_slice(told)?;
     report.append(stuck)?;
     Ok(report)
-}
-
-/// The short report, by a journal: what was refused before the run, each client's refused commands, the numbers of entries and frames, what filters
-/// counted, what else is told, and who is left waiting.
-pub fn short_report(
-    alloc: Global,
-    work: &Work,
-    faults: &[FaultList],
-    journal: &[Entry],
-    told: &[u8],
-    waiting: &Option<Waiting>,
-) -> Result<Bytes, AllocError>
-    requires { length faults.now ≤ 8 }
-    ensures { Yields (lines_of_turns work.now faults.now journal.now told.now waiting.now) result }
-{
-    short_report_with(
-        alloc,
-        work.refused.as_slice(),
-        work.counted.as_slice(),
-        faults,
-        journal,
-        told,
-        waiting,
-    )
 }
 
 // Where two commands touch the same.

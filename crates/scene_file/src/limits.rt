@@ -163,15 +163,15 @@ pub fn check_limits(scene: &Scene) -> Result<(), Limit>
 
 /// The first quantity outside its range of the streams of a scene with so many commands, of which not all need be stored where they are too many, by
 /// the numbers of the table of limits (`docs/scene-format.md`). What it declares is not judged. It takes no memory.
-pub fn check_streams(scene: &Scene, commands: u64) -> Result<(), Limit>
+pub fn check_streams(scene: &StoredScene, commands: u64) -> Result<(), Limit>
     requires width { scene.now.decl.width ≤ 2048 }
     requires height { scene.now.decl.height ≤ 2048 }
     requires stored { commands ≤ 1048576 → commands_in scene.now.streams ≡ commands }
     ensures few { commands ≤ 1048576 → Tells result (stream_limit scene.now) }
     ensures many { 1048576 < commands → result ≡ Err (record { what = 11; value = commands }) }
 {
-    let frames = count_frames(scene.streams.as_slice()) as u64;
-    judge_streams(&scene.decl, commands, frames)
+    let frames = count_stored_frames(scene.streams()) as u64;
+    judge_streams(scene.decl(), commands, frames)
 }
 
 fn frame_pixels(decl: &Decl, frames: u64) -> u64

@@ -3,14 +3,14 @@ ghost use Rattle.std.specs.Prelude.{◌≡◌, ◌≤◌};
 ghost use Rattle.rc_base.specs.Orders.Sync.{sync_lists_of};
 ghost use Rattle.sort_last.specs.Apart.{IsReady, IsReady-prop, AreListsOf, AreListsOf-prop, HaveFrames};
 
-use rc_base::scene::Scene;
+use command_store::StoredScene;
 use rc_base::sync::SyncLists;
 use textures::SharedSet;
 
 /// The frames from one to below another of a scene whose clients are drawn apart, with its lists of operations, and shared textures that nothing writes.
 #[derive(Clone, Copy)]
 pub(crate) struct Batch<'a> {
-    pub(crate) scene: &'a Scene,
+    pub(crate) scene: &'a StoredScene,
     pub(crate) syncs: &'a SyncLists,
     pub(crate) shared: &'a SharedSet,
     pub(crate) first: usize,

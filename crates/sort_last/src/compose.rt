@@ -16,11 +16,12 @@ use crate::apart::Batch;
 use crate::play::{DrawPass, play};
 use crate::player::{Player, draw_batch, exchange_sheets, frame_names, players_of};
 use crate::sheet::{ClientLayers, layers_at, no_layers};
+use command_store::StoredScene;
 use draw_device::Device;
 use gl_context::Context;
 use rc_base::image::Frames;
 use rc_base::out_of_memory::OutOfMemory;
-use rc_base::scene::{Decl, Scene};
+use rc_base::scene::Decl;
 use rc_base::sync::SyncLists;
 use serial_render::{show_up_to, window};
 use std::alloc::Global;
@@ -89,14 +90,14 @@ struct Window {
 
 impl Window {
     // Before the first frame.
-    fn new(alloc: Global, scene: &Scene) -> Result<Window, OutOfMemory>
+    fn new(alloc: Global, scene: &StoredScene) -> Result<Window, OutOfMemory>
         ensures layers { IfOk result (λ w. HoldEach scene.now 0 0 w.layers.items) }
         ensures composed { IfOk result (λ w. IsComposed scene.now 0 w) }
     {
         Ok(Window {
             layers: no_layers(alloc, scene)?,
-            clears: Context::new(alloc, &scene.decl)?,
-            device: Device::new(alloc, window(&scene.decl))?,
+            clears: Context::new(alloc, scene.decl())?,
+            device: Device::new(alloc, window(scene.decl()))?,
             frames: Frames::new(alloc),
         })
     }
@@ -123,7 +124,7 @@ impl Window {
         put_layers(batch, self.layers.as_slice(), &mut self.device, frame);
         show_up_to(
             alloc,
-            &batch.scene.decl,
+            batch.scene.decl(),
             &self.device,
             &mut self.frames,
             frame + 1,
@@ -181,7 +182,7 @@ struct Composition {
 
 impl Composition {
     // Before the first frame.
-    fn new(alloc: Global, scene: &Scene) -> Result<Composition, OutOfMemory>
+    fn new(alloc: Global, scene: &StoredScene) -> Result<Composition, OutOfMemory>
         ensures { IfOk result (λ c. IsUpTo scene.now 0 0 c) }
     {
         Ok(Composition {
@@ -240,7 +241,7 @@ impl Composition {
         requires { IsUpTo all.now.scene.now all.now.first all.now.first self.old }
         ensures { OnOk result (IsUpTo all.now.scene.now all.now.end all.now.end self.new) }
     {
-        let ahead = frames_ahead(&all.scene.decl);
+        let ahead = frames_ahead(all.scene.decl());
         let mut first = all.first;
         let mut end = batch_end(first, ahead, all.end);
         self.draw_first(rt, alloc, &all.part(first, end))?;
@@ -260,7 +261,7 @@ impl Composition {
 pub(crate) fn draw_frames(
     rt: &(impl Threads + Sync),
     alloc: Global,
-    scene: &Scene,
+    scene: &StoredScene,
     syncs: &SyncLists,
     count: usize,
 ) -> Result<Frames, OutOfMemory>
@@ -270,7 +271,7 @@ pub(crate) fn draw_frames(
     requires frames { HaveFrames scene.now count }
     ensures { IfOk result (λ v. v ≡ images_of scene.now.decl (composed_pixel scene.now) count) }
 {
-    let shared = SharedSet::new(alloc, &scene.decl.shared)?;
+    let shared = SharedSet::new(alloc, &scene.decl().shared)?;
     let all = Batch {
         scene,
         syncs,

@@ -10,6 +10,7 @@ ghost use Rattle.sort_last.specs.declared.last.LastFault.TheVariants as fault;
 
 use crate::compose::draw_frames;
 use crate::survey::{LastSurvey, survey_last};
+use command_store::StoredScene;
 use rc_base::image::Frames;
 use rc_base::out_of_memory::OutOfMemory;
 use rc_base::scene::Scene;
@@ -45,7 +46,7 @@ pub struct LastRun {
 fn run(
     rt: &(impl Threads + Sync),
     alloc: Global,
-    scene: &Scene,
+    scene: &StoredScene,
     syncs: &SyncLists,
 ) -> Result<LastRun, OutOfMemory>
     requires within { IsWithin scene.now }
@@ -74,7 +75,7 @@ fn run(
 pub fn render_judged(
     rt: &(impl Threads + Sync),
     alloc: Global,
-    scene: &Scene,
+    scene: &StoredScene,
     syncs: &SyncLists,
     offence: Option<Name>,
 ) -> Result<LastRun, LastFault>
@@ -102,7 +103,7 @@ pub fn render_judged(
 pub fn render_surveyed(
     rt: &(impl Threads + Sync),
     alloc: Global,
-    scene: &Scene,
+    scene: &StoredScene,
     syncs: &SyncLists,
 ) -> Result<LastRun, LastFault>
     requires within { IsWithin scene.now }
@@ -133,7 +134,8 @@ pub fn render_last(
     ensures waiting { IfOk result (λ r. TellsStuck (sync_lists_of scene.now) r.journal r.waiting) }
     ensures at { IfOk result (λ r. HasWaits (sync_lists_of scene.now) r.journal r.waiting) }
 {
-    let LastSurvey { survey, offence } = survey_last(rt, alloc, scene)?;
+    let stored = StoredScene::of(alloc, scene)?;
+    let LastSurvey { survey, offence } = survey_last(rt, alloc, &stored)?;
     let Survey { syncs, .. } = survey;
-    render_judged(rt, alloc, scene, &syncs, offence)
+    render_judged(rt, alloc, &stored, &syncs, offence)
 }

@@ -5,14 +5,15 @@ ghost use Rattle.rc_base.specs.Contexts.Issue.{stream_of};
 ghost use Rattle.sort_last.specs.Offends.{keeps_nearest};
 ghost use Rattle.sort_last.specs.Runs.{kind_offends, kind_drawn, place_or, IsSurveyedClient};
 
+use command_store::StoredScene;
 use gl_context::EffectKind;
 use rc_base::cluster::FaultList;
 use rc_base::out_of_memory::OutOfMemory;
-use rc_base::scene::{Scene, stream_length};
 use rc_base::state::State;
 use rc_base::sync::{SyncOp, SyncRow};
 use serial_render::ClientSurvey;
 use std::alloc::Global;
+use stream_replay::SceneStore;
 
 // Of the fragments that are drawn at a pixel in this state the nearest stays whole, and of equally near ones the first.
 #[tactic(auto, unfolding(crate::specs::Offends::keeps_nearest))]
@@ -70,7 +71,7 @@ pub(crate) struct SurveyedClient {
 /// Surveys a client's stream: each command is issued once, and judged by the state before it.
 pub(crate) fn survey_client(
     alloc: Global,
-    scene: &Scene,
+    scene: &StoredScene,
     client: usize,
 ) -> Result<SurveyedClient, OutOfMemory>
     requires within { IsWithin scene.now }
@@ -80,7 +81,7 @@ pub(crate) fn survey_client(
     let mut survey = ClientSurvey::new(alloc, scene)?;
     let mut drawn = false;
     let mut first = None;
-    let length = stream_length(scene, client);
+    let length = scene.stream_length(client);
     for place in 0..length {
         let keeps = keeps_nearest(survey.context.outside.state());
         let kind = survey.issue(scene, client, place)?;

@@ -6,10 +6,10 @@ ghost use Rattle.sort_last.specs.Players.{HaveDrawn, HoldEach, HaveLayers, AreDr
 
 use crate::apart::{Batch, ClientNames};
 use crate::sheet::{ClientLayers, Sheet};
+use command_store::StoredScene;
 use gl_context::Context;
 use rayon::prelude::*;
 use rc_base::out_of_memory::OutOfMemory;
-use rc_base::scene::Scene;
 use rc_base::sync::{SyncLists, SyncRow};
 use std::alloc::Global;
 use std::thread::Threads;
@@ -67,12 +67,12 @@ pub(crate) struct Player {
 
 impl Player {
     /// A client before its first frame.
-    fn new(alloc: Global, scene: &Scene) -> Result<Player, OutOfMemory>
+    fn new(alloc: Global, scene: &StoredScene) -> Result<Player, OutOfMemory>
         ensures { IfOk result
             (λ p. (client : ℕ) → HasDrawn scene.now client 0 0 p.context p.sheets.items) }
     {
         Ok(Player {
-            context: Context::new(alloc, &scene.decl)?,
+            context: Context::new(alloc, scene.decl())?,
             sheets: Vec::new(alloc),
             whole: true,
         })
@@ -91,7 +91,7 @@ impl Player {
     {
         let _client = client;
         for _ in self.sheets.len()..batch.end - batch.first {
-            self.sheets.push(Sheet::new(alloc, &batch.scene.decl)?)?;
+            self.sheets.push(Sheet::new(alloc, batch.scene.decl())?)?;
         }
         Ok(())
     }
@@ -153,11 +153,11 @@ impl Player {
 }
 
 /// The clients of a scene before their first frames.
-pub(crate) fn players_of(alloc: Global, scene: &Scene) -> Result<Vec<Player>, OutOfMemory>
+pub(crate) fn players_of(alloc: Global, scene: &StoredScene) -> Result<Vec<Player>, OutOfMemory>
     ensures { IfOk result (λ v. HaveDrawn scene.now 0 0 v.items) }
 {
     let mut players = Vec::new(alloc);
-    for _ in 0..scene.streams.len() {
+    for _ in 0..scene.streams().len() {
         players.push(Player::new(alloc, scene)?)?;
     }
     Ok(players)

@@ -10,10 +10,11 @@ ghost use Rattle.sort_last.specs.declared.play.DrawPass.TheVariants as passes;
 
 use crate::apart::{Batch, ClientNames};
 use crate::play::{DrawPass, play};
+use command_store::StoredScene;
 use draw_device::{Device, PixelRun};
 use gl_context::Context;
 use rc_base::out_of_memory::OutOfMemory;
-use rc_base::scene::{Decl, Scene};
+use rc_base::scene::Decl;
 use serial_render::window;
 use std::alloc::Global;
 
@@ -85,11 +86,14 @@ impl ClientLayers {
 }
 
 /// The layers of each client before the first frame: none.
-pub(crate) fn no_layers(alloc: Global, scene: &Scene) -> Result<Vec<ClientLayers>, OutOfMemory>
+pub(crate) fn no_layers(
+    alloc: Global,
+    scene: &StoredScene,
+) -> Result<Vec<ClientLayers>, OutOfMemory>
     ensures { IfOk result (λ v. HoldEach scene.now 0 0 v.items) }
 {
     let mut layers = Vec::new(alloc);
-    for _ in 0..scene.streams.len() {
+    for _ in 0..scene.streams().len() {
         layers.push(ClientLayers {
             sheets: Vec::new(alloc),
         })?;

@@ -8,9 +8,9 @@ ghost use Rattle.sort_last.specs.Offends.{IsFirstOffenceIfAny};
 ghost use Rattle.sort_last.specs.Runs.{name_or, IsSurveyedClient, AreSurveyedApart};
 
 use crate::offence::{SurveyedClient, survey_client};
+use command_store::StoredScene;
 use rc_base::cluster::FaultLists;
 use rc_base::out_of_memory::OutOfMemory;
-use rc_base::scene::Scene;
 use rc_base::sync::{Name, SyncRows};
 use serial_render::{Survey, survey_of_clients};
 use std::alloc::Global;
@@ -30,7 +30,7 @@ pub struct LastSurvey {
 fn survey_apart(
     rt: &(impl Threads + Sync),
     alloc: Global,
-    scene: &Scene,
+    scene: &StoredScene,
 ) -> Result<Vec<Result<SurveyedClient, OutOfMemory>>, OutOfMemory>
     requires { IsWithin scene.now }
     ensures { IfOk result (λ v. AreSurveyedApart scene.now v.items) }
@@ -39,7 +39,7 @@ fn survey_apart(
         requires { IsWithin scene.now × (client < length scene.now.streams) }
         ensures { IfOk result (λ s. IsSurveyedClient scene.entry.now client s) }
     { survey_client(alloc, scene, client) };
-    Ok(thread::map_indices(rt, alloc, scene.streams.len(), &survey)?)
+    Ok(thread::map_indices(rt, alloc, scene.streams().len(), &survey)?)
 }
 
 // The name that was found, or else that of the client's first command that offends.
@@ -59,7 +59,7 @@ fn name_or(found: Option<Name>, client: usize, first: Option<u32>) -> Option<Nam
 // Puts together what was found of each client. Where memory lacked for one of them, it lacks here.
 fn gathered(
     alloc: Global,
-    scene: &Scene,
+    scene: &StoredScene,
     found: Vec<Result<SurveyedClient, OutOfMemory>>,
 ) -> Result<LastSurvey, OutOfMemory>
     requires within { IsWithin scene.now }
@@ -88,7 +88,7 @@ fn gathered(
 pub fn survey_last(
     rt: &(impl Threads + Sync),
     alloc: Global,
-    scene: &Scene,
+    scene: &StoredScene,
 ) -> Result<LastSurvey, OutOfMemory>
     requires { IsWithin scene.now }
     ensures syncs { IfOk result (λ s. s.survey.syncs ≡ sync_lists_of scene.now) }

@@ -3,6 +3,7 @@ use Rattle.rc_base.specs.Drawing.Serial.{frame_pixel}
 use Rattle.rc_base.specs.declared.window.Layout.{Layout}
 use Rattle.rc_base.proofs.WithinLimits.{clients_within, counts_some}
 use Rattle.frame_out.specs.Writing.{AreWritable}
+use Rattle.render_core.specs.Due.{work_on}
 use Rattle.render_core.proofs.Dues.{last_due, lawful}
 use Rattle.render_core.proofs.due.last.Goals as goal
 
@@ -14,7 +15,7 @@ render_judged-requires-clause-within g c κs within = record { limits = c.requir
 
 pub short_report-requires : goal.short_report-requires
 short_report-requires g c =
-    let clients = clients_within c.args.work.now.scene c.requires.within in
+    let clients = clients_within c.args.scene.now c.requires.within in
     let count = c.in_ok-syncs.ensures.clients in
     let shown = ap length c.as_slice.ensures in
     omega (arith, clients, count, shown)
@@ -24,13 +25,13 @@ returns-clause-outcome g c =
     let surveyed = c.in_ok-syncs.ensures in
     let run = c.in-Ok.run' in
     let is = c.in-Ok.ensures in
-    last_due c.args.work.now.scene c.in_ok-syncs.field-0.survey.syncs surveyed.syncs run.journal run.waiting is.journal is.waiting is.at c.in_ok-syncs.field-0.survey.faults
-    surveyed.clients surveyed.faults c.args.work.now refl run.frames (is.frames) c.in_ok-notes.notes (cc (c.in_ok-notes.ensures, c.as_slice.ensures, c.as_slice-2.ensures)) c.ending_of-ending.result
+    last_due c.args.scene.now c.in_ok-syncs.field-0.survey.syncs surveyed.syncs run.journal run.waiting is.journal is.waiting is.at c.in_ok-syncs.field-0.survey.faults
+    surveyed.clients surveyed.faults (work_on c.args.scene.now c.args.refused.now c.args.counted.now) refl run.frames (is.frames) c.in_ok-notes.notes (cc (c.in_ok-notes.ensures, c.as_slice.ensures, c.as_slice-2.ensures)) c.ending_of-ending.result
     c.ending_of-ending.ensures
 
 pub returns-clause-writable : goal.returns-clause-writable
 returns-clause-writable g c =
-    let scene = c.args.work.now.scene in
+    let scene = c.args.scene.now in
     let surveyed = c.in_ok-syncs.ensures in
     let run = c.in-Ok.run' in
     let is = c.in-Ok.ensures in

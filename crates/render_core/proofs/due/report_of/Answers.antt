@@ -13,6 +13,6 @@ returns c = λ scene is.
     let counted = c.args.counted.now in
     let told = c.args.told.now in
     told_with (work_on scene refused counted) run.faults run.journal run.waiting is.are is.journal told _
-    (c.in_ok-short_report_with.ensures
+    (c.in_ok-short_report.ensures
     ∙ ap₂ (λ (faults : List (List (ℕ × Fault))) (journal : List Entry). lines_of_turns_with refused counted faults journal told run.waiting)
     c.as_slice.ensures c.as_slice-2.ensures)

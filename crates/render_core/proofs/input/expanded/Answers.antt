@@ -1,4 +1,4 @@
-use Rattle.std.proofs.Common.{◌≡◌, Ok, Err, refl, subst}
+use Rattle.std.proofs.Common.{◌≡◌, ◌≤◌, ◌∙◌, Ok, Err, refl, sym, subst}
 use Rattle.rc_base.specs.Formats.Limits.{commands_in}
 use Rattle.rc_base.specs.declared.scene.Scene.{Scene}
 use Rattle.call_lists.specs.Expansion.{TellsTooLong}
@@ -10,17 +10,19 @@ pub expand_all-requires : goal.expand_all-requires
 expand_all-requires c = streams_short c.args.scene.decl c.args.scene.streams c.requires
 
 pub check_streams-requires-clause-width : goal.check_streams-requires-clause-width
-check_streams-requires-clause-width c = (read_window c.args.scene.decl c.args.scene.streams c.requires).0
+check_streams-requires-clause-width c =
+    subst (λ (s : Scene). s.decl.width ≤ 2048) (sym c.new-scene.ensures) (read_window c.args.scene.decl c.args.scene.streams c.requires).0
 
 pub check_streams-requires-clause-height : goal.check_streams-requires-clause-height
-check_streams-requires-clause-height c = (read_window c.args.scene.decl c.args.scene.streams c.requires).1
+check_streams-requires-clause-height c =
+    subst (λ (s : Scene). s.decl.height ≤ 2048) (sym c.new-scene.ensures) (read_window c.args.scene.decl c.args.scene.streams c.requires).1
 
 pub check_streams-requires-clause-stored : goal.check_streams-requires-clause-stored
 check_streams-requires-clause-stored c few =
     let scene = c.args.scene in
     let x = c.in-Ok.field-0 in
     subst (λ (s : Scene). commands_in s.streams ≡ x.count)
-    (stored_whole scene c.requires c.costs_are_told.ensures x c.in-Ok.ensures.expanded c.in-Ok.ensures.within c.expansions_are_whole.ensures few)
+    (stored_whole scene c.requires c.costs_are_told.ensures x c.in-Ok.ensures.expanded c.in-Ok.ensures.within c.expansions_are_whole.ensures few ∙ sym c.new-scene.ensures)
     (counted scene c.requires c.costs_are_told.ensures x c.in-Ok.ensures.expanded c.in-Ok.ensures.within)
 
 pub returns-in-Ok-check_streams-clause-means : goal.returns-in-Ok-check_streams-clause-means
@@ -29,9 +31,9 @@ returns-in-Ok-check_streams-clause-means c =
     let x = c.in-Ok.field-0 in
     let told = c.costs_are_told.ensures in
     let whole = c.expansions_are_whole.ensures in
-    let judged = judged_whole scene c.requires told x c.in-Ok.ensures.expanded c.in-Ok.ensures.within whole _ refl (Ok c.in-Ok-check_streams.field-0)
+    let judged = judged_whole scene c.requires told x c.in-Ok.ensures.expanded c.in-Ok.ensures.within whole _ c.new-scene.ensures (Ok c.in-Ok-check_streams.field-0)
     c.in-Ok-check_streams.ensures.few c.in-Ok-check_streams.ensures.many in
-    expanded_is scene c.requires told x c.in-Ok.ensures.expanded c.in-Ok.ensures.within whole _ refl refl judged
+    expanded_is scene c.requires told x c.in-Ok.ensures.expanded c.in-Ok.ensures.within whole _ c.new-scene.ensures refl judged
 
 pub returns-in-Ok-clause-past : goal.returns-in-Ok-clause-past
 returns-in-Ok-clause-past c =
@@ -40,7 +42,7 @@ returns-in-Ok-clause-past c =
     let told = c.costs_are_told.ensures in
     let whole = c.expansions_are_whole.ensures in
     past_streams scene c.requires told x c.in-Ok.ensures.expanded c.in-Ok.ensures.within c.in-Err.limit
-    (judged_whole scene c.requires told x c.in-Ok.ensures.expanded c.in-Ok.ensures.within whole _ refl (Err c.in-Err.limit)
+    (judged_whole scene c.requires told x c.in-Ok.ensures.expanded c.in-Ok.ensures.within whole _ c.new-scene.ensures (Err c.in-Err.limit)
     c.in-Err.ensures.few c.in-Err.ensures.many)
 
 pub returns-in-Err-TooLong-clause-past : goal.returns-in-Err-TooLong-clause-past

@@ -1,9 +1,5 @@
-use Rattle.std.proofs.Common.{sym, subst, List, arith, rules}
-use Rattle.std.specs.declared.option.Option.{Option}
-use Rattle.rc_base.specs.Drawing.Serial.{blank_textures}
-use Rattle.rc_base.specs.Pictures.{Picture}
+use Rattle.std.proofs.Common.{arith, rules}
 use Rattle.textures.proofs.Stored.{blank}
-use Rattle.textures.specs.Stores.{HasTexels}
 use Rattle.sort_last.proofs.compose.draw_frames.Goals as goal
 
 pub invariant_of-all : goal.invariant_of-all
@@ -12,7 +8,7 @@ invariant_of-all g c =
     record {
       ready = record {
         within = c.requires.within;
-        blank = subst (λ (l : List (Option Picture)). HasTexels s.decl.shared (blank_textures s) l) (sym c.in_ok-shared.ensures) (blank s);
+        blank = rw (c.in_ok-shared.ensures, c.decl.ensures) (blank s);
         composable = c.requires.composable;
       };
       lists = c.requires.syncs;

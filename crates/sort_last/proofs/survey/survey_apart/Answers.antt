@@ -1,8 +1,8 @@
-use Rattle.std.proofs.Common.{◌∙◌, sym, arith}
+use Rattle.std.proofs.Common.{◌∙◌, length, ap, sym, arith}
 use Rattle.sort_last.proofs.survey.survey_apart.Goals as goal
 
 pub returns : goal.returns
 returns g c = record {
-  count = sym c.in_ok-map_indices.field-0.ok.0 ∙ c.in_ok-map_indices.ensures.len ∙ c.len.ensures;
-  each = λ client f low. (c.in_ok-map_indices.ensures.each client f (omega (arith, low, c.len.ensures))).1.met;
+  count = sym c.in_ok-map_indices.field-0.ok.0 ∙ c.in_ok-map_indices.ensures.len ∙ ap length c.streams.ensures;
+  each = λ client f low. (c.in_ok-map_indices.ensures.each client f (omega (arith, low, ap length c.streams.ensures))).1.met;
 }

@@ -1,9 +1,11 @@
 use Rattle.std.proofs.Common.{◌≡◌, ◌+◌, ◌-◌, ◌<◌, ◌∙◌, ap, sym, arith, subst, length, fold}
+use Rattle.rc_base.specs.Cluster.Tiles.{window_rect}
 use Rattle.rc_base.specs.Contexts.Issue.{context_after}
+use Rattle.rc_base.specs.declared.scene.Decl.{Decl}
 use Rattle.rc_base.specs.Orders.Order.{names_from}
 use Rattle.rc_base.specs.Orders.Sync.{sync_row_of}
 use Rattle.draw_device.specs.Devices.{pixel_of}
-use Rattle.serial_render.specs.Shown.{images_of}
+use Rattle.serial_render.specs.Shown.{AreShownOn, images_of}
 use Rattle.serial_render.specs.Steps.{Holds}
 use Rattle.sort_last.specs.Layers.{composed_pixel}
 use Rattle.sort_last.specs.Players.{shows, draw_if}
@@ -56,6 +58,7 @@ returns c =
     (λ x y within. played.drawn x y within ∙ (λ i. fold (draw_if s x y (shows pass.Clears s)) (pixel_of old x y) (names_from (n.client_is i) (n.from_is i) (n.to_is i - n.from_is i))))
     device c.put_layers.ensures.rect c.put_layers.ensures.drawn in
     let shown = c.in_ok-show_up_to.ensures in
+    let images = subst (λ (d : Decl). AreShownOn d device (frame + 1) c.args.self.now.frames c.show_up_to.new.frames) c.decl.ensures shown.images in
     let count : length c.show_up_to.new.frames ≡ frame + 1 = omega (arith, shown.count, before.count) in
     record {
       layers = c.requires.before.layers;
@@ -64,7 +67,7 @@ returns c =
         rect = c.put_layers.ensures.rect ∙ played.rect ∙ before.rect;
         holds = holds;
         count = count;
-        shown = shown.images (composed_pixel s) (before.shown ∙ ap (images_of s.decl (composed_pixel s)) (sym before.count))
+        shown = images (composed_pixel s) (before.shown ∙ ap (images_of s.decl (composed_pixel s)) (sym before.count))
             (λ k low high.
             let at : frame + 1 ≡ k = omega (arith, low, high, before.count) in
             subst (λ m. Holds device (composed_pixel s m)) at holds)
@@ -76,4 +79,5 @@ pub put_layers-requires-clause-rect : goal.put_layers-requires-clause-rect
 put_layers-requires-clause-rect c = c.in_ok-play.ensures.rect ∙ c.requires.before.composed.rect
 
 pub show_up_to-requires : goal.show_up_to-requires
-show_up_to-requires c = c.put_layers.ensures.rect ∙ c.in_ok-play.ensures.rect ∙ c.requires.before.composed.rect
+show_up_to-requires c =
+    c.put_layers.ensures.rect ∙ c.in_ok-play.ensures.rect ∙ c.requires.before.composed.rect ∙ ap (λ (d : Decl). window_rect d.width d.height) (sym c.decl.ensures)
