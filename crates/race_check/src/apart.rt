@@ -63,13 +63,15 @@ fn outline_name<S: SceneStore>(
     requires timelines { AreOrdered timelines.now.clients.items }
     requires fits { FitWindow
         (S.scene scene.now).decl.width (S.scene scene.now).decl.height outlines.old }
-    ensures clients { OnOk result (HasIssued (S.scene scene.now) clients.old.items name clients.new.items) }
+    ensures clients { OnOk result
+        (HasIssued (S.scene scene.now) clients.old.items name clients.new.items) }
     ensures fits { OnOk result (FitWindow
         (S.scene scene.now).decl.width (S.scene scene.now).decl.height outlines.new) }
     ensures apart { let clock = clock_of timelines.now.clients.items name in
         IfOk result (λ apart. apart ≡ true
         → PassesOutlines (footprint_of (S.scene scene.now))
-        (S.scene scene.now).decl.width (S.scene scene.now).decl.height clock name outlines.old outlines.new) }
+        (S.scene scene.now).decl.width (S.scene scene.now).decl.height
+        clock name outlines.old outlines.new) }
 {
     let client = usize::from(name.client);
     let effect = issue_name(clients, scene, name)?;
@@ -93,7 +95,8 @@ pub fn are_apart<S: SceneStore>(
     requires permitted { IsPermitted syncs.now journal.now order.now }
     requires timelines { AreOrdered timelines.now.clients.items }
     requires exact { IsExact syncs.now journal.now (clock_of timelines.now.clients.items) }
-    ensures { IfOk result (λ apart. apart ≡ true → NoRaces syncs.now journal.now (S.scene scene.now)) }
+    ensures { IfOk result (λ apart. apart ≡ true
+        → NoRaces syncs.now journal.now (S.scene scene.now)) }
 {
     let _journal = journal;
     let _syncs = syncs;

@@ -59,7 +59,8 @@ pub fn check_races(
     requires permitted { IsPermitted syncs.now journal.now order.now }
     ensures verdict { IfOk result (IsVerdictOn scene.now syncs.now journal.now order.now) }
     ensures exactly { IfOk result (λ v. SaysOrdered v ↔ NoRaces syncs.now journal.now scene.now) }
-    ensures exactly_ordered { IfOk result (λ v. SaysOrdered v ↔ IsOrderedScene scene.now journal.now) }
+    ensures exactly_ordered { IfOk result (λ v. SaysOrdered v
+        ↔ IsOrderedScene scene.now journal.now) }
 {
     check_scene_races(alloc, scene, journal, order, syncs)
 }
@@ -76,9 +77,12 @@ pub fn check_scene_races<S: SceneStore>(
     requires lists { syncs.now ≡ sync_lists_of (S.scene scene.now) }
     requires maximal { IsMaximal syncs.now journal.now }
     requires permitted { IsPermitted syncs.now journal.now order.now }
-    ensures verdict { IfOk result (IsVerdictOn (S.scene scene.now) syncs.now journal.now order.now) }
-    ensures exactly { IfOk result (λ v. SaysOrdered v ↔ NoRaces syncs.now journal.now (S.scene scene.now)) }
-    ensures exactly_ordered { IfOk result (λ v. SaysOrdered v ↔ IsOrderedScene (S.scene scene.now) journal.now) }
+    ensures verdict { IfOk result
+        (IsVerdictOn (S.scene scene.now) syncs.now journal.now order.now) }
+    ensures exactly { IfOk result (λ v. SaysOrdered v
+        ↔ NoRaces syncs.now journal.now (S.scene scene.now)) }
+    ensures exactly_ordered { IfOk result (λ v. SaysOrdered v
+        ↔ IsOrderedScene (S.scene scene.now) journal.now) }
 {
     let verdict = verdict_on(alloc, scene, journal, order, syncs)?;
     Ok(verdict)

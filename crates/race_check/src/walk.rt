@@ -30,13 +30,16 @@ fn carry_name<S: SceneStore>(
     requires within { IsWithin (S.scene scene.now) }
     requires next { IsNextOf (S.scene scene.now) clients.old.items name }
     requires timelines { AreOrdered timelines.now.clients.items }
-    requires sized { AreSized (S.scene scene.now).decl.width (S.scene scene.now).decl.height marks.old }
-    ensures clients { OnOk result (HasIssued (S.scene scene.now) clients.old.items name clients.new.items) }
+    requires sized { AreSized
+        (S.scene scene.now).decl.width (S.scene scene.now).decl.height marks.old }
+    ensures clients { OnOk result
+        (HasIssued (S.scene scene.now) clients.old.items name clients.new.items) }
     ensures sized { OnOk result (AreSized
         (S.scene scene.now).decl.width (S.scene scene.now).decl.height marks.new) }
     ensures carried { let clock = clock_of timelines.now.clients.items name in
         IfOk result (λ told. PassesMarks (footprint_of (S.scene scene.now))
-        (S.scene scene.now).decl.width (S.scene scene.now).decl.height clock name marks.old marks.new told) }
+        (S.scene scene.now).decl.width (S.scene scene.now).decl.height
+        clock name marks.old marks.new told) }
 {
     let client = usize::from(name.client);
     let effect = issue_name(clients, scene, name)?;

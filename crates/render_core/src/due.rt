@@ -315,7 +315,8 @@ pub(crate) fn race<S: SceneStore>(
     counted: &[u8],
 ) -> Result<Due, DueRefusal>
     requires { IsReadWithin OfBytes (S.scene scene.now) }
-    ensures due { MakesDue (IsMadeFor ToRace (work_on (S.scene scene.now) refused.now counted.now)) result }
+    ensures due { MakesDue
+        (IsMadeFor ToRace (work_on (S.scene scene.now) refused.now counted.now)) result }
     ensures blank { IfOk result (λ due. IsBlank due.image) }
 {
     let run = default_of(alloc, scene)?;

@@ -4,6 +4,7 @@ ghost use Rattle.rc_base.specs.Formats.Within.{IsWithin};
 ghost use Rattle.sort_last.specs.Layers.{pixel_in};
 ghost use Rattle.sort_last.specs.Offends.{offends};
 
+use command_store::StoredScene;
 use order_model::laws::{
     default_journal_is_maximal, default_orders_are_permitted, scenes_within_limits,
 };
@@ -46,7 +47,7 @@ pub fn drawn_twice(
 pub fn first_offence(
     rt: &(impl Threads + Sync),
     alloc: Global,
-    scene: &Scene,
+    scene: &StoredScene,
 ) -> Result<LastSurvey, OutOfMemory>
     requires { IsWithin scene.now }
     ensures { IfOk result (λ s. IfSome s.offence (λ n. (place : ℕ) → place < n.place

@@ -5,7 +5,7 @@ use rc_base::command::Rgba;
 use rc_base::gate::OpenGate;
 use rc_base::image::Image;
 use rc_base::window::{Pixel, Pixels};
-use scene_file::read_scene;
+use scene_file::{read_scene, read_stored_scene};
 use serial_render::sync_lists;
 use sort_last::{LastFault, LastRun, Layer, composite, render_last, render_surveyed};
 use std::alloc::Global;
@@ -119,10 +119,11 @@ where
     let bytes = packed(rt, alloc, text.as_slice());
     let serial = left_by(rt, alloc, &["serial"], bytes.bytes(), &OpenGate);
     let scene = read_scene(alloc, bytes.bytes()).expect(&rt, "a scene");
+    let stored = read_stored_scene(alloc, bytes.bytes()).expect(&rt, "a scene");
     let syncs = sync_lists(alloc, &scene).expect(&rt, "memory");
     let image = serial.image.bytes();
     shows(&render_last(&rt, alloc, &scene), image)
-        && shows(&render_surveyed(&rt, alloc, &scene, &syncs), image)
+        && shows(&render_surveyed(&rt, alloc, &stored, &syncs), image)
 }
 
 #[test]
