@@ -29,9 +29,9 @@ use std::thread::{Threads, join_mut};
 use textures::SharedSet;
 
 // So many pixels of a client are drawn ahead, eight bytes each, and as many that were drawn before are put together meanwhile.
-const PIXELS_AHEAD: usize = 2_097_152;
+const PIXELS_AHEAD: usize = 1_048_576;
 
-// How many frames are drawn ahead in a window: as many as a client's layers of them have two million pixels, and one at least. So threads are
+// How many frames are drawn ahead in a window: as many as a client's layers of them have one million pixels, and one at least. So threads are
 // started once for much work, also where frames are small, and a frame that is dearer for one client than for the others keeps them waiting less.
 fn frames_ahead(decl: &Decl) -> usize
     ensures { 0 < result }
