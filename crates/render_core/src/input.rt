@@ -8,6 +8,7 @@ ghost use Rattle.scene_file.specs.Letters.{BeginWithLists};
 ghost use Rattle.render_core.specs.Refusals.{IsExpanded, IsPast, IsRead, IsRefusedInput};
 ghost use Rattle.render_core.specs.Stored.{meaning_in};
 ghost use Rattle.run_words.specs.Asked.{IsWellRead};
+ghost use Rattle.run_words.specs.declared.refusal.InputRefusal.TheVariants.{OutOfMemory as NoMemory};
 ghost use Rattle.run_words.specs.declared.job.Form.TheVariants.{Bytes as OfBytes, PlainBytes as OfPlainBytes, Text as OfText};
 
 use crate::reader::{SceneReader, refusal_of};
@@ -113,19 +114,11 @@ pub(crate) fn meaning_of_lists(alloc: Global, input: &[u8]) -> Result<StoredMean
     }
 }
 
-// The same, with whole commands.
-fn whole_meaning_of_lists(alloc: Global, input: &[u8]) -> Result<Meaning, InputRefusal>
-    requires short { length input.now ≤ byte_limit }
-    requires lists { BeginWithLists input.now }
-    ensures read { IfOk result (IsRead OfBytes input.now) }
-    ensures well { IfOk result (λ x. IsWellRead OfBytes x.scene) }
-    ensures within { IfOk result (λ x. limit_of x.scene ≡ None) }
-    ensures refused { IfErr result (IsRefusedInput OfBytes input.now) }
+// The same meaning with whole commands.
+fn whole_meaning(alloc: Global, meant: StoredMeaning) -> Result<Meaning, InputRefusal>
+    ensures means { IfOk result (λ x. x ≡ meaning_in meant) }
+    ensures short { IfErr result (λ refusal. refusal ≡ NoMemory) }
 {
-    let meant = match meaning_of_lists(alloc, input) {
-        Ok(meant) => meant,
-        Err(refusal) => return Err(refusal),
-    };
     match whole(alloc, meant.scene) {
         Ok(scene) => Ok(Meaning {
             scene,
@@ -148,7 +141,10 @@ fn meaning_of_bytes<B: SceneReader>(
     ensures refused { IfErr result (IsRefusedInput OfBytes input.now) }
 {
     if begins_with_lists(input) {
-        return whole_meaning_of_lists(alloc, input);
+        return match meaning_of_lists(alloc, input) {
+            Ok(meant) => whole_meaning(alloc, meant),
+            Err(refusal) => Err(refusal),
+        };
     }
     match reader.scene_of_bytes(alloc, input) {
         Ok(scene) => Ok(plain(alloc, scene)),
