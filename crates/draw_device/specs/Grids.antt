@@ -35,6 +35,11 @@ blank_pixels e = replicate (e.width * e.height) blank_pixel
 abbrev pub IsDrawnBy : (ℤ → ℤ → Pixel → Pixel) → Grid → Grid → Type 0
 IsDrawnBy step old new = IsStepped step old.extent (grid_pixels old) (grid_pixels new)
 
+-- the same, and the grid stands where it stood
+pub record IsDrawnInPlace (step : ℤ → ℤ → Pixel → Pixel) (old new : Grid) : Type 0 where
+  pub extent : new.extent ≡ old.extent
+  pub drawn : IsDrawnBy step old new
+
 abbrev pub view_of : Grid → DeviceView
 view_of g = record { rect = grid_rect g.extent; pixels = grid_pixels g }
 

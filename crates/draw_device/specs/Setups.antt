@@ -1,5 +1,5 @@
 -- What a block and a triangle are drawn with, and what rows of their fragments leave.
-use Rattle.std.specs.Prelude.{ℕ, ◌+◌, List, Bool, ℤ, pos}
+use Rattle.std.specs.Prelude.{◌≡◌, ℕ, ◌+◌, List, Bool, ℤ, pos}
 use Rattle.rc_base.specs.Drawing.Texel.{wrap_in_s, wrap_in_t}
 use Rattle.rc_base.specs.Drawing.Pieces.{kept_corners_of}
 use Rattle.rc_base.specs.declared.command.Rgba.{Rgba}
@@ -18,12 +18,14 @@ use Rattle.raster.specs.declared.color.ColorPlane.{ColorPlane}
 use Rattle.raster.specs.declared.word_plane.WordPlane.{WordPlane}
 use Rattle.textures.specs.Samplers.{IsSampler}
 use Rattle.textures.specs.declared.sampler.Sampler.{Sampler}
+use Rattle.draw_device.specs.Columns.{IsOnlyRun}
 use Rattle.draw_device.specs.Pixels.{pixels_of}
 use Rattle.draw_device.specs.Loops.{AreColors, AreFlags, AreWritten, run_fragment, texel_for}
 use Rattle.draw_device.specs.Plans.{AreDepthTested, AreStages, AreStored, AreTexels, IsPaint, IsShading, IsSource, IsTests}
 use Rattle.draw_device.specs.Shapes.{IsRowChanged, IsRunStepped, cleared_pixel, corners_step, covered_step, drawn_step, fragment_pixel, grid_rect, triangles_step, tried_pixel}
 use Rattle.draw_device.specs.declared.block_setup.BlockSetup.{BlockSetup}
 use Rattle.draw_device.specs.declared.clear_setup.ClearSetup.{ClearSetup}
+use Rattle.draw_device.specs.declared.column_run.ColumnRun.{ColumnRun}
 use Rattle.draw_device.specs.declared.paint.Paint.{Paint}
 use Rattle.draw_device.specs.declared.grid.Extent.{Extent}
 use Rattle.draw_device.specs.declared.run.Run.{Run}
@@ -59,13 +61,15 @@ pieces_of b block t = triangles_of b (kept_corners_of b.state.now block t)
 abbrev pub block_of : BlockSetup → Block → ℤ → ℤ → Pixel → Pixel
 block_of b = drawn_step b.state.now b.texture.now
 
--- the colours alone of a triangle's fragments are stored
-abbrev pub AreStoredIn : BlockSetup → WindowTriangle → Type 0
-AreStoredIn b tri = AreStored b.state.now b.texture.now tri.v
+-- the setup is the grid's, and the colours alone of a triangle's fragments are stored
+pub record AreStoredIn (b : BlockSetup) (g : Extent) (tri : WindowTriangle) : Type 0 where
+  pub grid : b.extent ≡ g
+  pub stored : AreStored b.state.now b.texture.now tri.v
 
--- the way that is settled for a triangle in a grid is right
-abbrev pub IsPaintIn : BlockSetup → Extent → WindowTriangle → Paint → Type 0
-IsPaintIn b g tri = IsPaint b.state.now b.texture.now tri.v (pos g.left) (pos g.bottom)
+-- the setup is the grid's, and the way that is settled for a triangle in it is right
+pub record IsPaintIn (b : BlockSetup) (g : Extent) (tri : WindowTriangle) (paint : Paint) : Type 0 where
+  pub grid : b.extent ≡ g
+  pub settled : IsPaint b.state.now b.texture.now tri.v (pos g.left) (pos g.bottom) paint
 
 -- the part of a grid's rectangle that lets a state's draws through
 abbrev pub IsDrawnPart : State → Extent → Rect → Type 0
@@ -96,6 +100,22 @@ IsStoredBy t = AreStored t.state.now t.texture.now t.tri.now.v
 -- the way that is settled for it is right
 abbrev pub IsPaintOf : Setup → Type 0
 IsPaintOf t = IsPaint t.state.now t.texture.now t.tri.now.v (pos t.extent.left) (pos t.extent.bottom) t.paint
+
+-- it is a grid's, and the way that is settled for it is right
+pub record IsPaintedIn (t : Setup) (g : Extent) : Type 0 where
+  pub grid : t.extent ≡ g
+  pub paint : IsPaintOf t
+
+-- and it is drawn in this part of the grid
+pub record IsDrawnIn (t : Setup) (g : Extent) (part : Rect) : Type 0 where
+  pub painted : IsPaintedIn t g
+  pub within : IsDrawnPart t.state.now g part
+
+-- it covers the rows of one column alone of such a part, and its colours alone are stored
+pub record IsStoredRun (t : Setup) (g : Extent) (part : Rect) (r : ColumnRun) : Type 0 where
+  pub within : IsDrawnPart t.state.now g part
+  pub run : IsOnlyRun t.tri.now.v g part r
+  pub stored : IsStoredBy t
 
 -- what is settled of it where its pixels are drawn one by one
 abbrev pub IsShadingOf : Setup → Shading → Type 0

@@ -18,8 +18,8 @@ ghost use Rattle.draw_device.specs.Shapes.{IsCovered, IsSpanIn, AreRowsOf, IsCac
 ghost use Rattle.draw_device.specs.Conditions.{IsClearable};
 ghost use Rattle.draw_device.specs.Columns.{IsOnlyRun};
 ghost use Rattle.draw_device.specs.Devices.{pixel_index};
-ghost use Rattle.draw_device.specs.Grids.{IsDrawnBy, grid_pixel, grid_pixels};
-ghost use Rattle.draw_device.specs.Setups.{AreStoredIn, IsDrawnPart, IsGridPlane, IsPaintIn, IsPaintOf, IsStoredBy, block_of, cached_of, corners_of, covered_by, fragment_by, pieces_of, triangle_of, triangles_of};
+ghost use Rattle.draw_device.specs.Grids.{IsDrawnBy, IsDrawnInPlace, grid_pixel, grid_pixels};
+ghost use Rattle.draw_device.specs.Setups.{AreStoredIn, IsDrawnIn, IsGridPlane, IsPaintIn, IsPaintedIn, IsStoredRun, block_of, cached_of, corners_of, covered_by, fragment_by, pieces_of, triangle_of, triangles_of};
 
 use crate::block_setup::BlockSetup;
 use crate::clear_setup::ClearSetup;
@@ -71,13 +71,11 @@ fn rows_of(tri: &WindowTriangle, part: Rect) -> SpanIter<'_>
 
 impl Grid {
     // Draws the pixels of a span of a triangle.
-    fn draw_span(&mut self, setup: &Setup<'_>, span: Span)
-        requires grid { setup.now.extent ≡ self.old.extent }
-        requires paint { IsPaintOf setup.now }
+    fn draw_span(&mut self, triangle: &Setup<'_>, span: Span)
+        requires triangle { IsPaintedIn triangle.now self.old.extent }
         requires inside { IsSpanIn self.old.extent span }
-        requires covered { IsCovered setup.now.tri.now.v span }
-        ensures extent { self.new.extent ≡ self.old.extent }
-        ensures drawn { IsDrawnBy (span_step (fragment_by setup.now) span) self.old self.new }
+        requires covered { IsCovered triangle.now.tri.now.v span }
+        ensures { IsDrawnInPlace (span_step (fragment_by triangle.now) span) self.old self.new }
     {
         let _height = self.extent.height;
         let up = offset(span.y, self.extent.bottom);
@@ -89,7 +87,7 @@ impl Grid {
             &mut self.colors.as_mut_slice()[start..end],
             &mut self.depths.as_mut_slice()[start..end],
             &mut self.spare,
-            setup,
+            triangle,
             up,
             from,
             to,
@@ -97,16 +95,13 @@ impl Grid {
     }
 
     // Draws the spans of a triangle in the part of the grid's rectangle that lets it through.
-    fn draw_rows(&mut self, setup: &Setup<'_>, rows: SpanIter<'_>)
-        requires grid { setup.now.extent ≡ self.old.extent }
-        requires paint { IsPaintOf setup.now }
-        requires part { IsDrawnPart setup.now.state.now self.old.extent rows.rect }
-        requires rows { AreRowsOf setup.now.tri.now rows.rect rows }
-        ensures extent { self.new.extent ≡ self.old.extent }
-        ensures drawn { IsDrawnBy (covered_by setup.now) self.old self.new }
+    fn draw_rows(&mut self, triangle: &Setup<'_>, rows: SpanIter<'_>)
+        requires part { IsDrawnIn triangle.now self.old.extent rows.rect }
+        requires rows { AreRowsOf triangle.now.tri.now rows.rect rows }
+        ensures { IsDrawnInPlace (covered_by triangle.now) self.old self.new }
     {
         'rows: for span in rows {
-            self.draw_span(setup, span);
+            self.draw_span(triangle, span);
         }
     }
 
@@ -153,15 +148,12 @@ impl Grid {
     }
 
     // Draws a triangle of one column and one colour that is stored alone.
-    fn draw_filled_column(&mut self, setup: &Setup<'_>, part: Rect, run: ColumnRun, color: Rgba)
-        requires part { IsDrawnPart setup.now.state.now self.old.extent part }
-        requires run { IsOnlyRun setup.now.tri.now.v self.old.extent part run }
-        requires stored { IsStoredBy setup.now }
-        requires color { AreFlat setup.now.tri.now.v color }
-        ensures extent { self.new.extent ≡ self.old.extent }
-        ensures drawn { IsDrawnBy (covered_by setup.now) self.old self.new }
+    fn draw_filled_column(&mut self, triangle: &Setup<'_>, part: Rect, run: ColumnRun, color: Rgba)
+        requires run { IsStoredRun triangle.now self.old.extent part run }
+        requires color { AreFlat triangle.now.tri.now.v color }
+        ensures { IsDrawnInPlace (covered_by triangle.now) self.old self.new }
     {
-        let _setup = setup;
+        let _triangle = triangle;
         let _part = part;
         fill_column(self.colors.as_mut_slice(), run, color);
     }
@@ -169,151 +161,140 @@ impl Grid {
     // Draws a triangle of one column and several colours that are stored alone.
     fn draw_stepped_column(
         &mut self,
-        setup: &Setup<'_>,
+        triangle: &Setup<'_>,
         part: Rect,
         run: ColumnRun,
         plane: &ColorPlane,
     )
-        requires part { IsDrawnPart setup.now.state.now self.old.extent part }
-        requires run { IsOnlyRun setup.now.tri.now.v self.old.extent part run }
-        requires stored { IsStoredBy setup.now }
-        requires plane { IsGridPlane setup.now.tri.now.v self.old.extent plane.now }
-        ensures extent { self.new.extent ≡ self.old.extent }
-        ensures drawn { IsDrawnBy (covered_by setup.now) self.old self.new }
+        requires run { IsStoredRun triangle.now self.old.extent part run }
+        requires plane { IsGridPlane triangle.now.tri.now.v self.old.extent plane.now }
+        ensures { IsDrawnInPlace (covered_by triangle.now) self.old self.new }
     {
         let _part = part;
         let first = color_rise(plane, run);
-        step_column(self.colors.as_mut_slice(), setup.tri, run, first);
+        step_column(self.colors.as_mut_slice(), triangle.tri, run, first);
     }
 
     // Draws a triangle in a part by the way that was settled for it.
-    fn draw_painted(&mut self, setup: &Setup<'_>, part: Rect)
-        requires grid { setup.now.extent ≡ self.old.extent }
-        requires paint { IsPaintOf setup.now }
-        requires part { IsDrawnPart setup.now.state.now self.old.extent part }
-        ensures extent { self.new.extent ≡ self.old.extent }
-        ensures drawn { IsDrawnBy (covered_by setup.now) self.old self.new }
+    fn draw_painted(&mut self, triangle: &Setup<'_>, part: Rect)
+        requires { IsDrawnIn triangle.now self.old.extent part }
+        ensures { IsDrawnInPlace (covered_by triangle.now) self.old self.new }
     {
-        let rows = rows_of(setup.tri, part);
-        match (self.only_column(setup.tri, part, &rows), setup.paint) {
-            (Some(run), Paint::Fill(color)) => self.draw_filled_column(setup, part, run, color),
-            (Some(run), Paint::Store(plane)) => self.draw_stepped_column(setup, part, run, plane),
-            _ => self.draw_rows(setup, rows),
+        let rows = rows_of(triangle.tri, part);
+        match (self.only_column(triangle.tri, part, &rows), triangle.paint) {
+            (Some(run), Paint::Fill(color)) => self.draw_filled_column(triangle, part, run, color),
+            (Some(run), Paint::Store(plane)) => self.draw_stepped_column(
+                triangle, part, run, plane,
+            ),
+            _ => self.draw_rows(triangle, rows),
         }
     }
 
     // Draws a triangle in a part by the way that was settled for it.
     fn draw_settled<'s>(
         &mut self,
-        block: &BlockSetup<'_>,
+        setup: &BlockSetup<'_>,
         tri: &'s WindowTriangle,
         paint: Paint<'s>,
     )
-        requires grid { block.now.extent ≡ self.old.extent }
-        requires paint { IsPaintIn block.now self.old.extent tri.now paint }
-        ensures extent { self.new.extent ≡ self.old.extent }
-        ensures drawn { IsDrawnBy (triangle_of block.now tri.now) self.old self.new }
+        requires { IsPaintIn setup.now self.old.extent tri.now paint }
+        ensures { IsDrawnInPlace (triangle_of setup.now tri.now) self.old self.new }
     {
-        let setup = Setup {
-            state: block.state,
-            texture: block.texture,
-            plan: block.plan,
+        let triangle = Setup {
+            state: setup.state,
+            texture: setup.texture,
+            plan: setup.plan,
             tri,
             extent: self.extent,
             paint,
         };
-        self.draw_painted(&setup, block.part);
+        self.draw_painted(&triangle, setup.part);
     }
 
     // Draws a triangle of several colours that are stored alone. It is compiled for itself, since the plane takes room at its entry.
     #[inline(never)]
-    fn draw_stored(&mut self, block: &BlockSetup<'_>, tri: &WindowTriangle)
-        requires grid { block.now.extent ≡ self.old.extent }
-        requires stored { AreStoredIn block.now tri.now }
-        ensures extent { self.new.extent ≡ self.old.extent }
-        ensures drawn { IsDrawnBy (triangle_of block.now tri.now) self.old self.new }
+    fn draw_stored(&mut self, setup: &BlockSetup<'_>, tri: &WindowTriangle)
+        requires { AreStoredIn setup.now self.old.extent tri.now }
+        ensures { IsDrawnInPlace (triangle_of setup.now tri.now) self.old self.new }
     {
         if is_tiny(tri) {
-            let shading = shading_of(block.state, block.texture, block.plan, tri);
-            self.draw_settled(block, tri, Paint::Pixels(shading));
+            let shading = shading_of(setup.state, setup.texture, setup.plan, tri);
+            self.draw_settled(setup, tri, Paint::Pixels(shading));
             return;
         }
         let shared = shared_at(tri, self.extent.left, self.extent.bottom);
         let plane = color_plane(tri, &shared);
         let paint = Paint::Store(&plane);
-        self.draw_settled(block, tri, paint);
+        self.draw_settled(setup, tri, paint);
     }
 
     // Draws a triangle in stages. It is compiled for itself, since planes take room at its entry.
     #[inline(never)]
-    fn draw_in_stages(&mut self, block: &BlockSetup<'_>, tri: &WindowTriangle)
-        requires grid { block.now.extent ≡ self.old.extent }
-        ensures extent { self.new.extent ≡ self.old.extent }
-        ensures drawn { IsDrawnBy (triangle_of block.now tri.now) self.old self.new }
+    fn draw_in_stages(&mut self, setup: &BlockSetup<'_>, tri: &WindowTriangle)
+        requires grid { setup.now.extent ≡ self.old.extent }
+        ensures { IsDrawnInPlace (triangle_of setup.now tri.now) self.old self.new }
     {
-        let flat = untextured_color(block.texture, tri);
+        let flat = untextured_color(setup.texture, tri);
         if let Some(color) = flat {
-            if takes_no_test(block.state, block.plan, tri) {
+            if takes_no_test(setup.state, setup.plan, tri) {
                 let source = Source::Flat(color);
                 let tests = Tests::Off;
                 let paint = Paint::Stages(Stages {
                     source: &source,
                     tests: &tests,
                 });
-                self.draw_settled(block, tri, paint);
+                self.draw_settled(setup, tri, paint);
                 return;
             }
         }
         if is_tiny(tri) {
-            let shading = shading_of(block.state, block.texture, block.plan, tri);
-            self.draw_settled(block, tri, Paint::Pixels(shading));
+            let shading = shading_of(setup.state, setup.texture, setup.plan, tri);
+            self.draw_settled(setup, tri, Paint::Pixels(shading));
             return;
         }
         let shared = shared_at(tri, self.extent.left, self.extent.bottom);
-        let source = source_of(block.state, block.texture, block.plan, tri, flat, &shared);
-        let tests = tests_of(block.state, block.plan, tri, &shared);
+        let source = source_of(setup.state, setup.texture, setup.plan, tri, flat, &shared);
+        let tests = tests_of(setup.state, setup.plan, tri, &shared);
         let paint = Paint::Stages(Stages {
             source: &source,
             tests: &tests,
         });
-        self.draw_settled(block, tri, paint);
+        self.draw_settled(setup, tri, paint);
     }
 
     // Draws a triangle that covers pixels of a part alone.
     #[inline(always)]
-    fn draw_part(&mut self, block: &BlockSetup<'_>, tri: &WindowTriangle, part: Rect)
-        requires grid { block.now.extent ≡ self.old.extent }
-        requires part { HoldsSome tri.now.v block.now.part part }
-        ensures extent { self.new.extent ≡ self.old.extent }
-        ensures drawn { IsDrawnBy (triangle_of block.now tri.now) self.old self.new }
+    fn draw_part(&mut self, setup: &BlockSetup<'_>, tri: &WindowTriangle, part: Rect)
+        requires grid { setup.now.extent ≡ self.old.extent }
+        requires part { HoldsSome tri.now.v setup.now.part part }
+        ensures { IsDrawnInPlace (triangle_of setup.now tri.now) self.old self.new }
     {
-        let stores = stores_colors(block.state, block.texture, block.plan, tri);
+        let stores = stores_colors(setup.state, setup.texture, setup.plan, tri);
         if has_few(part, stores) {
-            self.draw_few(block, tri, part);
+            self.draw_few(setup, tri, part);
             return;
         }
         if !stores {
-            self.draw_in_stages(block, tri);
+            self.draw_in_stages(setup, tri);
             return;
         }
         match flat_color(tri) {
             Some(color) => {
                 let paint = Paint::Fill(color);
-                self.draw_settled(block, tri, paint);
+                self.draw_settled(setup, tri, paint);
             }
-            None => self.draw_stored(block, tri),
+            None => self.draw_stored(setup, tri),
         }
     }
 
     // Draws a triangle in the part of the grid's rectangle that lets it through.
     #[inline(always)]
-    fn draw_triangle(&mut self, block: &BlockSetup<'_>, tri: &WindowTriangle)
-        requires grid { block.now.extent ≡ self.old.extent }
-        ensures extent { self.new.extent ≡ self.old.extent }
-        ensures drawn { IsDrawnBy (triangle_of block.now tri.now) self.old self.new }
+    fn draw_triangle(&mut self, setup: &BlockSetup<'_>, tri: &WindowTriangle)
+        requires grid { setup.now.extent ≡ self.old.extent }
+        ensures { IsDrawnInPlace (triangle_of setup.now tri.now) self.old self.new }
     {
-        match covered_part(tri, block.part) {
-            Some(part) => self.draw_part(block, tri, part),
+        match covered_part(tri, setup.part) {
+            Some(part) => self.draw_part(setup, tri, part),
             None => {}
         }
     }
@@ -331,8 +312,7 @@ impl Grid {
         requires near { MatchOption tri
             (IsBesideIfKept setup.now.state.now (listed vertices.now) corners setup.now.near)
             (λ t. kept_whole setup.now.state.now (listed vertices.now) corners ≡ Some t.v) }
-        ensures extent { self.new.extent ≡ self.old.extent }
-        ensures drawn { IsDrawnBy (corners_of setup.now (listed vertices.now) corners) self.old self.new }
+        ensures { IsDrawnInPlace (corners_of setup.now (listed vertices.now) corners) self.old self.new }
     {
         let _vertices = vertices;
         let _corners = corners;
@@ -346,27 +326,25 @@ impl Grid {
     // Draws the triangle of three vertices, where it is kept and doesn't lie beside the part.
     fn draw_corners(
         &mut self,
-        block: &BlockSetup<'_>,
+        setup: &BlockSetup<'_>,
         cache: &mut VertexCache<'_>,
         corners: [usize; 3],
     )
-        requires grid { block.now.extent ≡ self.old.extent }
-        requires state { cache.old.state.now ≡ block.now.state.now }
+        requires grid { setup.now.extent ≡ self.old.extent }
+        requires state { cache.old.state.now ≡ setup.now.state.now }
         requires corners { AreBelow (length (listed cache.old.vertices)) corners }
         ensures cache { IsCacheOf cache.old.state.now (listed cache.old.vertices) cache.new }
-        ensures extent { self.new.extent ≡ self.old.extent }
-        ensures drawn { IsDrawnBy (cached_of block.now cache.old corners) self.old self.new }
+        ensures drawn { IsDrawnInPlace (cached_of setup.now cache.old corners) self.old self.new }
     {
-        let tri = cache.triangle_near(corners, &block.near, &block.bounds);
-        self.draw_near(block, tri, &cache.vertices, corners);
+        let tri = cache.triangle_near(corners, &setup.near, &setup.bounds);
+        self.draw_near(setup, tri, &cache.vertices, corners);
     }
 
     // Draws the triangles of a block of a mode whose triangles aren't cut. A vertex that several triangles share is brought to the window once.
     fn draw_whole(&mut self, setup: &BlockSetup<'_>, block: &ListedBlock<'_>)
         requires mode { block.now.mode < cut_modes }
         requires grid { setup.now.extent ≡ self.old.extent }
-        ensures extent { self.new.extent ≡ self.old.extent }
-        ensures drawn { IsDrawnBy (block_of setup.now (listed_block block.now)) self.old self.new }
+        ensures { IsDrawnInPlace (block_of setup.now (listed_block block.now)) self.old self.new }
     {
         // A copy that nothing else sees, so that its mode is judged once.
         let block = *block;
@@ -382,8 +360,7 @@ impl Grid {
     #[inline(never)]
     fn draw_found(&mut self, setup: &BlockSetup<'_>, tri: &Option<WindowTriangle>)
         requires grid { setup.now.extent ≡ self.old.extent }
-        ensures extent { self.new.extent ≡ self.old.extent }
-        ensures drawn { IsDrawnBy (triangles_of setup.now (found tri.now)) self.old self.new }
+        ensures { IsDrawnInPlace (triangles_of setup.now (found tri.now)) self.old self.new }
     {
         if let Some(t) = tri {
             self.draw_triangle(setup, t);
@@ -393,8 +370,7 @@ impl Grid {
     // Draws the pieces of a triangle, one after the other.
     fn draw_pieces(&mut self, setup: &BlockSetup<'_>, given: &Pieces)
         requires grid { setup.now.extent ≡ self.old.extent }
-        ensures extent { self.new.extent ≡ self.old.extent }
-        ensures drawn { IsDrawnBy (triangles_of setup.now (found_in given.now)) self.old self.new }
+        ensures { IsDrawnInPlace (triangles_of setup.now (found_in given.now)) self.old self.new }
     {
         self.draw_found(setup, &given.first);
         self.draw_found(setup, &given.second);
@@ -412,8 +388,7 @@ impl Grid {
         requires cache { IsCacheOf setup.now.state.now (listed block.now.vertices) cache.old }
         requires corners { AreBelow (length (listed block.now.vertices)) corners }
         ensures cache { IsCacheOf setup.now.state.now (listed block.now.vertices) cache.new }
-        ensures extent { self.new.extent ≡ self.old.extent }
-        ensures drawn { IsDrawnBy (pieces_of setup.now (listed_block block.now) corners) self.old self.new }
+        ensures drawn { IsDrawnInPlace (pieces_of setup.now (listed_block block.now) corners) self.old self.new }
     {
         match cache.uncut_near(corners, &setup.near, &setup.bounds) {
             Uncut::Whole(tri) => {
@@ -430,8 +405,7 @@ impl Grid {
     // Draws the triangles of a block of any mode. Those that the near plane doesn't cut go the way of those that are drawn whole.
     fn draw_cut(&mut self, setup: &BlockSetup<'_>, block: &ListedBlock<'_>)
         requires grid { setup.now.extent ≡ self.old.extent }
-        ensures extent { self.new.extent ≡ self.old.extent }
-        ensures drawn { IsDrawnBy (block_of setup.now (listed_block block.now)) self.old self.new }
+        ensures { IsDrawnInPlace (block_of setup.now (listed_block block.now)) self.old self.new }
     {
         let block = *block;
         let mut cache = VertexCache::with(setup.state, setup.identities, block.vertices);

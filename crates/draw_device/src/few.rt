@@ -2,7 +2,7 @@
 ghost use Rattle.std.specs.Prelude.{◌≡◌, ◌+◌, ◌<◌, ◌≤◌};
 ghost use Rattle.raster.specs.Weighed.{HoldsSome};
 ghost use Rattle.draw_device.specs.Shapes.{grid_span, span_step};
-ghost use Rattle.draw_device.specs.Grids.{IsDrawnBy};
+ghost use Rattle.draw_device.specs.Grids.{IsDrawnInPlace};
 ghost use Rattle.draw_device.specs.Setups.{IsShadingOf, triangle_of, tried_by};
 
 use crate::block_setup::BlockSetup;
@@ -43,8 +43,7 @@ impl Grid {
         requires low { up < self.old.extent.height }
         requires order { from ≤ to }
         requires wide { to ≤ self.old.extent.width }
-        ensures extent { self.new.extent ≡ self.old.extent }
-        ensures drawn { IsDrawnBy (span_step (tried_by setup.now)
+        ensures { IsDrawnInPlace (span_step (tried_by setup.now)
             (grid_span self.old.extent up from to)) self.old self.new }
     {
         let start = row_start(self.extent.width, up);
@@ -72,8 +71,7 @@ impl Grid {
     )
         requires grid { block.now.extent ≡ self.old.extent }
         requires part { HoldsSome tri.now.v block.now.part part }
-        ensures extent { self.new.extent ≡ self.old.extent }
-        ensures drawn { IsDrawnBy (triangle_of block.now tri.now) self.old self.new }
+        ensures { IsDrawnInPlace (triangle_of block.now tri.now) self.old self.new }
     {
         let shading = shading_of(block.state, block.texture, block.plan, tri);
         let setup = Setup {

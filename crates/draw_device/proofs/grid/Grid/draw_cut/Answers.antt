@@ -37,9 +37,9 @@ cuts-preserved c =
     let start = (pixels_of c.args.self.now.colors.items c.args.self.now.depths.items) in
     let old = (pixels_of c.cuts.self.colors.items c.cuts.self.depths.items) in
     let new = (pixels_of c.draw_cut_corners.new.self.colors.items c.draw_cut_corners.new.self.depths.items) in
-    let drawn = subst (λ (h : Extent). IsStepped (triangles_step s p (kept_corners_of s block t)) h old new) v.extent c.draw_cut_corners.ensures.drawn in
+    let drawn = subst (λ (h : Extent). IsStepped (triangles_step s p (kept_corners_of s block t)) h old new) v.extent c.draw_cut_corners.ensures.drawn.drawn in
     record {
-      extent = c.draw_cut_corners.ensures.extent ∙ v.extent;
+      extent = c.draw_cut_corners.ensures.drawn.extent ∙ v.extent;
       state = c.draw_cut_corners.ensures.cache.state;
       vertices = c.draw_cut_corners.ensures.cache.vertices;
       rest = λ i j li lj.
@@ -49,13 +49,16 @@ cuts-preserved c =
           (v.rest i j li lj);
     }
 
-pub returns-clause-drawn : goal.returns-clause-drawn
-returns-clause-drawn c =
+pub returns : goal.returns
+returns c =
     let v = c.cuts.invariant in
     let s = c.args.setup.now.state.now in
     let g = c.args.self.now.extent in
     let block = listed_block c.args.block.now in
     let e = rest_done block c.cuts.i (subst (λ (n : ℕ). n ≤ c.cuts.i) c.triangle_count-count.ensures c.cuts-test.false) in
     record {
-      each = λ i j li lj. draws_done (triangle_step s c.args.setup.now.texture.now (column_at g i) (row_at g j)) (kept_corners_of s block) _ _ _ (triangles_in block) e (v.rest i j li lj);
+      extent = v.extent;
+      drawn = record {
+        each = λ i j li lj. draws_done (triangle_step s c.args.setup.now.texture.now (column_at g i) (row_at g j)) (kept_corners_of s block) _ _ _ (triangles_in block) e (v.rest i j li lj);
+      };
     }

@@ -42,6 +42,9 @@ returns-in-Whole-clause-drawn c =
     front_kept s block.mode (vertex_at vs (slice_index t 0)) (vertex_at vs (slice_index t 1)) (vertex_at vs (slice_index t 2)) front.0 front.1 front.2 in
     let drawn = c.draw_near.ensures.drawn in
     record {
-      each = λ i j hi hj. drawn.each i j hi hj
-          ∙ ap (λ (us : List (List WindowVertex)). fold (triangle_step s p (column_at g i) (row_at g j)) (pixel_at old (j * g.width + i)) us) (sym whole);
+      extent = c.draw_near.ensures.extent;
+      drawn = record {
+        each = λ i j hi hj. drawn.each i j hi hj
+            ∙ ap (λ (us : List (List WindowVertex)). fold (triangle_step s p (column_at g i) (row_at g j)) (pixel_at old (j * g.width + i)) us) (sym whole);
+      };
     }

@@ -178,8 +178,8 @@ loop-up-preserved c =
           drawn (omega (arith, ints));
     }
 
-pub returns-clause-drawn : goal.returns-clause-drawn
-returns-clause-drawn c =
+pub returns : goal.returns
+returns c =
     let b = c.args.block.now in
     let g = c.args.self.now.extent in
     let few = c.args.part in
@@ -192,5 +192,8 @@ returns-clause-drawn c =
     let rows = h.rows in
     let above = h.above in
     let i = c.loop-up.invariant in
-    stepped_all (covered_step b.state.now b.texture.now c.args.tri.now.v) g (pixels_of c.args.self.now.colors.items c.args.self.now.depths.items) (pixels_of c.loop-up.self.colors.items c.loop-up.self.depths.items) _ i.drawn
-    (λ k j hi hj l o. tried_above b.state.now b.texture.now c.args.tri.now.v g b.part p few h.cover k j hi hj (omega (arith, ints, most, is)) o)
+    record {
+      extent = i.extent;
+      drawn = stepped_all (covered_step b.state.now b.texture.now c.args.tri.now.v) g (pixels_of c.args.self.now.colors.items c.args.self.now.depths.items) (pixels_of c.loop-up.self.colors.items c.loop-up.self.depths.items) _ i.drawn
+          (λ k j hi hj l o. tried_above b.state.now b.texture.now c.args.tri.now.v g b.part p few h.cover k j hi hj (omega (arith, ints, most, is)) o);
+    }

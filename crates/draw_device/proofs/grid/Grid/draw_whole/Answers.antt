@@ -48,11 +48,11 @@ draws-preserved c =
     let old = (pixels_of c.draws.self.colors.items c.draws.self.depths.items) in
     let new = (pixels_of c.draw_corners.new.self.colors.items c.draw_corners.new.self.depths.items) in
     let drawn = subst (λ (g : Extent). IsStepped (corners_step s p block.vertices t) g old new) v.extent
-    (subst (λ (vs : List Vertex). IsStepped (corners_step s p vs t) c.draws.self.extent old new) v.vertices c.draw_corners.ensures.drawn) in
+    (subst (λ (vs : List Vertex). IsStepped (corners_step s p vs t) c.draws.self.extent old new) v.vertices c.draw_corners.ensures.drawn.drawn) in
     let whole : kept_corners_of s block t ≡ option_to_list (kept_whole s block.vertices t) =
     whole_kept s block.mode (vertex_at block.vertices (slice_index t 0)) (vertex_at block.vertices (slice_index t 1)) (vertex_at block.vertices (slice_index t 2)) c.requires.mode in
     record {
-      extent = c.draw_corners.ensures.extent ∙ v.extent;
+      extent = c.draw_corners.ensures.drawn.extent ∙ v.extent;
       state = c.draw_corners.ensures.cache.state ∙ v.state;
       vertices = c.draw_corners.ensures.cache.vertices ∙ v.vertices;
       rest = λ i j li lj.
@@ -62,13 +62,16 @@ draws-preserved c =
           (v.rest i j li lj);
     }
 
-pub returns-clause-drawn : goal.returns-clause-drawn
-returns-clause-drawn c =
+pub returns : goal.returns
+returns c =
     let v = c.draws.invariant in
     let s = c.args.setup.now.state.now in
     let g = c.args.self.now.extent in
     let block = listed_block c.args.block.now in
     let e = rest_done block c.draws.i (subst (λ (n : ℕ). n ≤ c.draws.i) c.triangle_count-count.ensures c.draws-test.false) in
     record {
-      each = λ i j li lj. draws_done (triangle_step s c.args.setup.now.texture.now (column_at g i) (row_at g j)) (kept_corners_of s block) _ _ _ (triangles_in block) e (v.rest i j li lj);
+      extent = v.extent;
+      drawn = record {
+        each = λ i j li lj. draws_done (triangle_step s c.args.setup.now.texture.now (column_at g i) (row_at g j)) (kept_corners_of s block) _ _ _ (triangles_in block) e (v.rest i j li lj);
+      };
     }

@@ -30,8 +30,8 @@ try_run-requires-clause-depths c =
     let size_ds : length (take (end - start) (drop start c.as_mut_slice-2.result.now)) ≡ g.width = search rules in
     size_ds ∙ sym size_cs
 
-pub returns-clause-drawn : goal.returns-clause-drawn
-returns-clause-drawn c =
+pub returns : goal.returns
+returns c =
     let s = c.args.setup.now in
     let grid = c.args.self.now in
     let g = grid.extent in
@@ -56,4 +56,7 @@ returns-clause-drawn c =
     let back_ds = with_items_is grid.depths (put_mid start (end - start) ds new_ds) (same_len_mid start (end - start) ds new_ds size_ds ∙ c.as_mut_slice-2.ensures.len) in
     let row = row_placed f g.left (g.bottom + up) (up * g.width) start end from to grid.colors.items cs new_cs _ grid.depths.items ds new_ds _ c.row_start-start.ensures grid.deep (omega arith) inside ab (omega (arith, bw))
     c.as_mut_slice.ensures.value c.as_mut_slice-2.ensures.value size_cs size_ds back_cs back_ds done.drawn in
-    span_drawn f (grid_span g up from to) g up from to _ _ refl refl refl ab bw row
+    record {
+      extent = refl;
+      drawn = span_drawn f (grid_span g up from to) g up from to _ _ refl refl refl ab bw row;
+    }
