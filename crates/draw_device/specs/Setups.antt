@@ -1,5 +1,5 @@
 -- What a block and a triangle are drawn with, and what rows of their fragments leave.
-use Rattle.std.specs.Prelude.{◌≡◌, ℕ, ◌+◌, List, Bool, ℤ, pos}
+use Rattle.std.specs.Prelude.{◌≡◌, ℕ, ◌+◌, ◌≤◌, length, List, Bool, ℤ, pos}
 use Rattle.rc_base.specs.Drawing.Texel.{wrap_in_s, wrap_in_t}
 use Rattle.rc_base.specs.Drawing.Pieces.{kept_corners_of}
 use Rattle.rc_base.specs.declared.command.Rgba.{Rgba}
@@ -28,6 +28,7 @@ use Rattle.draw_device.specs.declared.clear_setup.ClearSetup.{ClearSetup}
 use Rattle.draw_device.specs.declared.column_run.ColumnRun.{ColumnRun}
 use Rattle.draw_device.specs.declared.paint.Paint.{Paint}
 use Rattle.draw_device.specs.declared.grid.Extent.{Extent}
+use Rattle.draw_device.specs.declared.grid.Spare.{Spare}
 use Rattle.draw_device.specs.declared.run.Run.{Run}
 use Rattle.draw_device.specs.declared.setup.Setup.{Setup}
 use Rattle.draw_device.specs.declared.shading.Shading.{Shading}
@@ -153,6 +154,11 @@ run_texel t r k = texel_for t.state.now t.texture.now (run_fragment t.tri.now.v 
 abbrev pub AreColorsOf : Setup → Run → List Rgba → Type 0
 AreColorsOf t = AreColors t.state.now t.texture.now t.tri.now.v
 
+-- and reaches to the run's end
+pub record AreLaidIn (t : Setup) (r : Run) (colors : List Rgba) : Type 0 where
+  pub room : r.to ≤ length colors
+  pub colored : AreColorsOf t r colors
+
 -- or those that are to be written over the stored ones
 abbrev pub AreWrittenOf : Setup → Run → List Rgba → List Rgba → Type 0
 AreWrittenOf t = AreWritten t.state.now t.texture.now t.tri.now.v
@@ -166,6 +172,11 @@ AreFlagsOf t = AreFlags t.state.now t.texture.now t.tri.now.v
 -- after the fragments of a run
 abbrev pub IsRowDrawn : Setup → Run → List Rgba → List ℕ → List Rgba → List ℕ → Type 0
 IsRowDrawn t r = IsRowChanged (fragment_by t) r.left r.row r.from r.to
+
+-- the same, and the room for a row is as long as it was
+pub record IsRowPut (t : Setup) (r : Run) (old : Spare) (colors : List Rgba) (depths : List ℕ) (new : Spare) (new_colors : List Rgba) (new_depths : List ℕ) : Type 0 where
+  pub spare : length new.colors.items ≡ length old.colors.items
+  pub drawn : IsRowDrawn t r colors depths new_colors new_depths
 
 -- after those of columns `from` to below `to` of a row of the window
 abbrev pub IsWindowRowDrawn : Setup → ℕ → ℕ → ℕ → List Rgba → List ℕ → List Rgba → List ℕ → Type 0

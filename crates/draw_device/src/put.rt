@@ -2,7 +2,7 @@
 ghost use Rattle.std.specs.Prelude.{◌≡◌, ◌≤◌, length, pos};
 ghost use Rattle.draw_device.specs.Loops.{IsCoveredRow};
 ghost use Rattle.draw_device.specs.Plans.{AreUntested, AreAlphaTested, IsDepthPlane};
-ghost use Rattle.draw_device.specs.Setups.{AreColorsOf, AreDepthTestedBy, AreFlagsOf, AreWrittenOf, IsRowDrawn, IsTestsOf};
+ghost use Rattle.draw_device.specs.Setups.{AreDepthTestedBy, AreFlagsOf, AreLaidIn, AreWrittenOf, IsRowPut, IsTestsOf};
 
 use crate::alpha::{choose_colors, flag_passing};
 use crate::colors::copy_colors;
@@ -17,8 +17,7 @@ use rc_base::command::Rgba;
 
 // Flags the fragments whose alpha passes.
 fn flag_row(spare: &mut Spare, setup: &Setup<'_>, run: Run)
-    requires room { run.to ≤ length spare.old.colors.items }
-    requires colored { AreColorsOf setup.now run spare.old.colors.items }
+    requires { AreLaidIn setup.now run spare.old.colors.items }
     ensures colors { spare.new.colors ≡ spare.old.colors }
     ensures flagged { AreFlagsOf setup.now run spare.new.flags.items }
 {
@@ -34,8 +33,7 @@ fn flag_row(spare: &mut Spare, setup: &Setup<'_>, run: Run)
 // The fragments' colours become those that are to be written over the stored ones.
 fn write_row(spare: &mut Spare, stored: &[Rgba], setup: &Setup<'_>, run: Run)
     requires stored { run.to ≤ length stored.now }
-    requires room { run.to ≤ length spare.old.colors.items }
-    requires colored { AreColorsOf setup.now run spare.old.colors.items }
+    requires laid { AreLaidIn setup.now run spare.old.colors.items }
     ensures size { length spare.new.colors.items ≡ length spare.old.colors.items }
     ensures flags { spare.new.flags ≡ spare.old.flags }
     ensures written { AreWrittenOf setup.now run stored.now spare.new.colors.items }
@@ -46,11 +44,10 @@ fn write_row(spare: &mut Spare, stored: &[Rgba], setup: &Setup<'_>, run: Run)
 // A row of fragments that take no test.
 fn untested_row(colors: &mut [Rgba], depths: &[u32], spare: &mut Spare, setup: &Setup<'_>, run: Run)
     requires row { IsCoveredRow setup.now.tri.now.v run colors.old depths.now }
-    requires room { run.to ≤ length spare.old.colors.items }
-    requires colored { AreColorsOf setup.now run spare.old.colors.items }
+    requires laid { AreLaidIn setup.now run spare.old.colors.items }
     requires tests { AreUntested setup.now.state.now setup.now.tri.now.v }
-    ensures spare { length spare.new.colors.items ≡ length spare.old.colors.items }
-    ensures drawn { IsRowDrawn setup.now run colors.old depths.now colors.new depths.now }
+    ensures { IsRowPut setup.now run spare.old colors.old depths.now
+        spare.new colors.new depths.now }
 {
     let _depths = depths;
     write_row(spare, colors, setup, run);
@@ -60,11 +57,10 @@ fn untested_row(colors: &mut [Rgba], depths: &[u32], spare: &mut Spare, setup: &
 // A row of fragments that take the alpha test alone.
 fn chosen_row(colors: &mut [Rgba], depths: &[u32], spare: &mut Spare, setup: &Setup<'_>, run: Run)
     requires row { IsCoveredRow setup.now.tri.now.v run colors.old depths.now }
-    requires room { run.to ≤ length spare.old.colors.items }
-    requires colored { AreColorsOf setup.now run spare.old.colors.items }
+    requires laid { AreLaidIn setup.now run spare.old.colors.items }
     requires tests { AreAlphaTested setup.now.state.now setup.now.tri.now.v }
-    ensures spare { length spare.new.colors.items ≡ length spare.old.colors.items }
-    ensures drawn { IsRowDrawn setup.now run colors.old depths.now colors.new depths.now }
+    ensures { IsRowPut setup.now run spare.old colors.old depths.now
+        spare.new colors.new depths.now }
 {
     let _depths = depths;
     flag_row(spare, setup, run);
@@ -88,11 +84,10 @@ pub(crate) fn tested_row(
     run: Run,
 )
     requires row { IsCoveredRow setup.now.tri.now.v run colors.old depths.old }
-    requires room { run.to ≤ length spare.old.colors.items }
-    requires colored { AreColorsOf setup.now run spare.old.colors.items }
+    requires laid { AreLaidIn setup.now run spare.old.colors.items }
     requires tests { AreDepthTestedBy setup.now run plane.now }
-    ensures spare { length spare.new.colors.items ≡ length spare.old.colors.items }
-    ensures drawn { IsRowDrawn setup.now run colors.old depths.old colors.new depths.new }
+    ensures { IsRowPut setup.now run spare.old colors.old depths.old
+        spare.new colors.new depths.new }
 {
     write_row(spare, colors, setup, run);
     test_run(colors, depths, spare.colors.as_slice(), setup, plane, run);
@@ -108,11 +103,10 @@ fn any_row(
     run: Run,
 )
     requires row { IsCoveredRow setup.now.tri.now.v run colors.old depths.old }
-    requires room { run.to ≤ length spare.old.colors.items }
-    requires colored { AreColorsOf setup.now run spare.old.colors.items }
+    requires laid { AreLaidIn setup.now run spare.old.colors.items }
     requires plane { IsDepthPlane setup.now.tri.now.v (pos run.left) (pos run.bottom) plane.now }
-    ensures spare { length spare.new.colors.items ≡ length spare.old.colors.items }
-    ensures drawn { IsRowDrawn setup.now run colors.old depths.old colors.new depths.new }
+    ensures { IsRowPut setup.now run spare.old colors.old depths.old
+        spare.new colors.new depths.new }
 {
     flag_row(spare, setup, run);
     write_row(spare, colors, setup, run);
@@ -129,11 +123,10 @@ pub(crate) fn put_row(
     run: Run,
 )
     requires row { IsCoveredRow setup.now.tri.now.v run colors.old depths.old }
-    requires room { run.to ≤ length spare.old.colors.items }
-    requires colored { AreColorsOf setup.now run spare.old.colors.items }
+    requires laid { AreLaidIn setup.now run spare.old.colors.items }
     requires tests { IsTestsOf setup.now run tests.now }
-    ensures spare { length spare.new.colors.items ≡ length spare.old.colors.items }
-    ensures drawn { IsRowDrawn setup.now run colors.old depths.old colors.new depths.new }
+    ensures { IsRowPut setup.now run spare.old colors.old depths.old
+        spare.new colors.new depths.new }
 {
     match tests {
         Tests::Off => untested_row(colors, depths, spare, setup, run),
