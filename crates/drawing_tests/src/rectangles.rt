@@ -109,6 +109,54 @@ fn blank_before_and_after(rt: &impl Abort, alloc: Global) -> (u8, u8) {
     (before, blank_pixels(rt, &device))
 }
 
+// The same with a box of one row, from one column to below another.
+fn state_between(from: u8, to: u8) -> State
+    ensures { IsClearable result }
+{
+    State {
+        scissor: [i32::from(from), 0, i32::from(to.wrapping_sub(from)), 1],
+        ..state()
+    }
+}
+
+// The run of what was drawn on in a window of 100 by 1, where these columns are cleared to a nearer depth.
+fn drawn_between(rt: &impl Abort, alloc: Global, from: u8, to: u8) -> (usize, usize) {
+    let rect = Rect {
+        x0: 0,
+        y0: 0,
+        x1: 100,
+        y1: 1,
+    };
+    let mut device = Device::new(alloc, rect).expect(rt, "memory");
+    device.clear(&state_between(from, to), 2);
+    let run = device.drawn();
+    (run.from, run.to)
+}
+
+// Columns at the edges of what is looked at together, 32 of them from either end, and within it.
+const BETWEEN: [(u8, u8); 10] = [
+    (0, 1),
+    (0, 100),
+    (31, 32),
+    (32, 33),
+    (33, 67),
+    (36, 37),
+    (64, 68),
+    (67, 69),
+    (95, 96),
+    (99, 100),
+];
+
+#[test]
+fn what_was_drawn_on_is_found_from_its_first_pixel_to_its_last(rt: HostRuntime) {
+    assert!(rt; drawn_between(&rt, rt.alloc(), 5, 5) == (100, 100));
+    for row in &BETWEEN {
+        let (from, to) = *row;
+        let due = (usize::from(from), usize::from(to));
+        assert!(rt; drawn_between(&rt, rt.alloc(), from, to) == due);
+    }
+}
+
 #[test]
 fn a_clear_stays_in_the_scissor_box(rt: HostRuntime) {
     assert!(rt; cleared(rt.alloc()) == Ok((12, 0)));

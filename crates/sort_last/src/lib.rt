@@ -2,8 +2,8 @@
 //!
 //! It is for scenes whose clients only swap, and whose blocks keep the nearest fragment. Which commands keep a scene from it is `specs::Offends`,
 //! what layers are is `specs::Layers`, and that their frames are those of one renderer in the default order is the law `layers_compose_to_frames`.
-//! Contexts are those of gl_context and stream_replay, pixels those of a `Device` of draw_device, the journal that of serial_render, and `rayon` has the
-//! threads.
+//! Commands are those of a `StoredScene` of command_store, contexts those of gl_context and stream_replay, pixels those of a `Device` of draw_device, and
+//! the journal is that of serial_render. Clients are threads of `rayon`, and beside them one thread puts together what they drew before.
 #![tactic(auto)]
 
 mod apart;
