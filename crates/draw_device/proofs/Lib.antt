@@ -8,4 +8,5 @@ mod ColumnsToPixels
 mod Beside
 mod Codes
 mod NearerPixels
+mod CopiedRuns
 mod ChangedGrids

@@ -40,11 +40,3 @@ IsFarBeside run d = EachBeside run d.rect (λ x y. (pixel_of d x y).depth ≡ de
 -- beside the run each pixel is blank
 abbrev pub IsBlankBeside : PixelRun → DeviceView → Type 0
 IsBlankBeside run d = EachBeside run d.rect (λ x y. pixel_of d x y ≡ blank_pixel)
-
--- beside the run no pixel of a layer is nearer
-abbrev pub NoneIsNearerBeside : PixelRun → DeviceView → DeviceView → Type 0
-NoneIsNearerBeside run layer d = EachBeside run d.rect (λ x y. (pixel_of d x y).depth ≤ (pixel_of layer x y).depth)
-
--- the nearer one of a pixel and that of a layer
-abbrev pub nearer_in : DeviceView → ℤ → ℤ → Pixel → Pixel
-nearer_in layer x y old = nearer old (pixel_of layer x y)

@@ -1,8 +1,9 @@
 -- What contracts see of a device: its rectangle, and the pixels in it, row by row from the lowest, each row from the left.
-use Rattle.std.specs.Prelude.{◌≡◌, true, ℕ, ◌+◌, ◌*◌, List, ℤ, pos, ◌-ℤ◌, ◌≤ℤ◌}
+use Rattle.std.specs.Prelude.{◌≡◌, true, ℕ, ◌+◌, ◌*◌, ◌≤◌, List, ℤ, pos, ◌-ℤ◌, ◌≤ℤ◌}
 use Rattle.rc_base.specs.Numbers.{natural}
 use Rattle.rc_base.specs.Cluster.Tiles.{is_in_rect}
 use Rattle.rc_base.specs.Drawing.Serial.{blank_pixel}
+use Rattle.rc_base.specs.Drawing.Window.{depth_most}
 use Rattle.rc_base.specs.declared.cluster.TilePart.{TilePart}
 use Rattle.rc_base.specs.declared.window.Pixel.{Pixel}
 use Rattle.rc_base.specs.declared.window.Rect.{Rect}
@@ -40,6 +41,10 @@ EachTakes step old new = (x y : ℤ) → is_in_rect old.rect x y ≡ true → pi
 -- each pixel of a rectangle is blank
 abbrev pub IsBlankIn : Rect → DeviceView → Type 0
 IsBlankIn r d = (x y : ℤ) → is_in_rect r x y ≡ true → pixel_of d x y ≡ blank_pixel
+
+-- no depth lies beyond the far end
+abbrev pub AreNear : DeviceView → Type 0
+AreNear d = (x y : ℤ) → is_in_rect d.rect x y ≡ true → (pixel_of d x y).depth ≤ depth_most
 
 -- the part of an image that a tile hands out of a frame
 abbrev pub part_of : ℕ → ℕ → DeviceView → TilePart

@@ -3,13 +3,11 @@ use Rattle.std.specs.Prelude.{◌≡◌, ℕ, ◌*◌, List, ℤ, replicate}
 use Rattle.rc_base.specs.Drawing.Serial.{blank_pixel}
 use Rattle.rc_base.specs.Drawing.Window.{depth_most}
 use Rattle.rc_base.specs.declared.window.Pixel.{Pixel}
-use Rattle.draw_device.specs.Beside.{TakesNearer}
 use Rattle.draw_device.specs.Devices.{DeviceView}
 use Rattle.draw_device.specs.Pixels.{pixel_at, pixels_of}
 use Rattle.draw_device.specs.Shapes.{IsStepped, grid_rect}
 use Rattle.draw_device.specs.declared.grid.Extent.{Extent}
 use Rattle.draw_device.specs.declared.grid.Grid.{Grid}
-use Rattle.draw_device.specs.declared.pixel_run.PixelRun.{PixelRun}
 
 -- the pixels, row by row from the lowest, each row from the left
 abbrev pub grid_pixels : Grid → List Pixel
@@ -22,10 +20,6 @@ grid_pixel g k = pixel_at (grid_pixels g) k
 -- it is as far as can be
 abbrev pub IsFarAt : Grid → ℕ → Type 0
 IsFarAt g k = (grid_pixel g k).depth ≡ depth_most
-
--- the run's pixels become a layer's where those are nearer
-abbrev pub GridTakesNearer : PixelRun → Grid → Grid → Grid → Type 0
-GridTakesNearer run layer old new = TakesNearer run (grid_pixel layer) (grid_pixel old) (grid_pixel new)
 
 -- all pixels of a grid that nothing was drawn at
 abbrev pub blank_pixels : Extent → List Pixel

@@ -2,6 +2,7 @@ pub mod Pixels
 pub mod Devices
 pub mod Conditions
 pub mod Beside
+pub mod Active
 pub mod Shapes
 pub mod Grids
 pub mod Lazy

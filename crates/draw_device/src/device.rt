@@ -1,18 +1,22 @@
 //! The device.
-ghost use Rattle.std.specs.Prelude.{◌≡◌, ℕ, ◌≤◌, length, IfOk, true, None, Option};
+ghost use Rattle.std.specs.Prelude.{◌≡◌, ℕ, ◌≤◌, length, ℤ, IfOk, OnOk, true, None, Option};
 ghost use Rattle.rc_base.specs.Pictures.{Picture};
 ghost use Rattle.rc_base.specs.Cluster.Tiles.{is_in_rect};
+ghost use Rattle.rc_base.specs.Drawing.Nearer.{nearer};
 ghost use Rattle.rc_base.specs.Drawing.PixelStep.{effect_step};
 ghost use Rattle.rc_base.specs.Drawing.Serial.{blank_pixel};
 ghost use Rattle.rc_base.specs.declared.state.Effect.TheVariants as eff;
+ghost use Rattle.rc_base.specs.declared.window.Pixel.{Pixel};
+ghost use Rattle.draw_device.specs.Active.{FitAmong, IsLayer};
 ghost use Rattle.draw_device.specs.Conditions.{IsDrawable, IsClearable, TakesBlock, sampled_of};
-ghost use Rattle.draw_device.specs.Devices.{IsDeviceRect, IsBlankIn, EachTakes, part_of, rect_size, pixel_of};
-ghost use Rattle.draw_device.specs.Beside.{IsBlankBeside, IsFarBeside, NoneIsNearerBeside, nearer_in};
+ghost use Rattle.draw_device.specs.Devices.{AreNear, IsDeviceRect, IsBlankIn, EachTakes, part_of, rect_size, pixel_of};
+ghost use Rattle.draw_device.specs.Beside.{IsBlankBeside, IsFarBeside};
 ghost use Rattle.draw_device.specs.Grids.{blank_view};
 ghost use Rattle.draw_device.specs.Pixels.{color_at, pixel_at};
 ghost use Rattle.draw_device.specs.Prepared.{IsPreparedFor};
 ghost use Rattle.geometry.specs.Listed.{listed_block};
 
+use crate::active::ActivePixels;
 use crate::grid::{Extent, Grid};
 use crate::pixel_run::PixelRun;
 use crate::prepared::Prepared;
@@ -142,17 +146,27 @@ impl Device {
         self.grid.clear(state, mask);
     }
 
-    /// Each pixel of the rectangle becomes that of a layer over the same rectangle, where the layer's is nearer. Only this run is gone through: no pixel
-    /// beside it may be nearer in the layer.
-    pub fn take_nearer(&mut self, layer: &Device, run: PixelRun)
-        requires rect { layer.now.rect ≡ self.old.rect }
-        requires order { run.from ≤ run.to }
-        requires inside { run.to ≤ rect_size self.old.rect }
-        requires beside { NoneIsNearerBeside run layer.now self.old }
+    /// Each pixel of the rectangle becomes that of a layer over the same rectangle, where the layer's is nearer. Only the layer's active pixels are gone
+    /// through.
+    pub fn take_nearer(&mut self, layer: &ActivePixels)
+        requires fit { FitAmong (rect_size self.old.rect) layer.now }
+        requires near { AreNear self.old }
         ensures rect { self.new.rect ≡ self.old.rect }
-        ensures nearer { EachTakes (nearer_in layer.now) self.old self.new }
+        ensures nearer { (picture : ℤ → ℤ → Pixel) → IsLayer self.old.rect picture layer.now
+            → EachTakes (λ x y old. nearer old (picture x y)) self.old self.new }
     {
-        self.grid.take_nearer(&layer.grid, run);
+        self.grid.take_nearer(layer);
+    }
+
+    /// The pixels of a run become a layer's active pixels. Beside the run nothing was drawn.
+    pub fn copy_active(&self, run: PixelRun, layer: &mut ActivePixels) -> Result<(), OutOfMemory>
+        requires order { run.from ≤ run.to }
+        requires inside { run.to ≤ rect_size self.now.rect }
+        requires beside { IsFarBeside run self.now }
+        ensures { OnOk result (IsLayer self.now.rect (pixel_of self.now) layer.new) }
+    {
+        layer.copy_run(&self.grid, run)?;
+        Ok(())
     }
 
     /// The run from the first pixel that is nearer than the far end to the last one.

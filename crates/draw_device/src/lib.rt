@@ -20,6 +20,7 @@
 //! serial renderer does to the whole window with the context's.
 #![tactic(auto)]
 
+mod active;
 mod alpha;
 mod blank;
 mod blending;
@@ -63,6 +64,7 @@ mod visible;
 mod write;
 mod writes;
 
+pub use active::ActivePixels;
 pub use carry::{carry_out, effect_of};
 pub use device::Device;
 pub use lazy::LazyDevice;

@@ -14,12 +14,12 @@ use Rattle.rc_base.specs.Orders.Sync.{sync_row_of}
 use Rattle.rc_base.specs.declared.scene.Scene.{Scene}
 use Rattle.rc_base.specs.declared.window.Pixel.{Pixel}
 use Rattle.rc_base.specs.declared.window.Rect.{Rect}
-use Rattle.draw_device.specs.Devices.{DeviceView, EachTakes, pixel_of}
+use Rattle.draw_device.specs.Devices.{AreNear, DeviceView, EachTakes, pixel_of}
 use Rattle.serial_render.specs.Steps.{Holds}
 use Rattle.serial_render.proofs.ClearDepths.{clearable}
 use Rattle.sort_last.specs.Layers.{layer_pixel, merged_pixel, cleared_pixel, composed_pixel}
 use Rattle.sort_last.specs.Offends.{IsComposable}
-use Rattle.sort_last.specs.Players.{AreNear, shows, draw_if, start_of}
+use Rattle.sort_last.specs.Players.{shows, draw_if, start_of}
 use Rattle.sort_last.specs.declared.play.DrawPass.TheVariants as pass
 use Rattle.sort_last.proofs.DrawnByDepth.{IsDepth}
 use Rattle.sort_last.proofs.FrameBounds.{frame_cleared}

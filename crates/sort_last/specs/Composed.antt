@@ -24,7 +24,7 @@ pub record IsComposing (b : Batch) (frame : ℕ) (w : Window) : Type 0 where
   pub layers : HaveLayers b w.layers.items
   pub composed : IsComposed b.scene.now frame w
 
--- The frames up to one are put together and shown, the clients have drawn their layers of those behind it up to another, and the window's sheets are spare.
+-- The frames up to one are put together and shown, the clients have drawn their layers of those behind it up to another, and the window's layers are spare.
 pub record IsUpTo (scene : Scene) (frame drawn : ℕ) (c : Composition) : Type 0 where
   pub players : HaveDrawn scene frame drawn c.players.items
   pub spare : HoldEach scene frame frame c.window.layers.items

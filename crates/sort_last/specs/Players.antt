@@ -3,11 +3,9 @@ use Rattle.std.specs.Prelude.{◌≡◌, ℕ, zero, suc, ◌+◌, ◌-◌, ◌<�
 use Rattle.rc_base.specs.Pictures.{Picture}
 use Rattle.rc_base.specs.Contexts.Context.{ClientContext}
 use Rattle.rc_base.specs.Contexts.Issue.{stream_of, context_after, effect_at}
-use Rattle.rc_base.specs.Cluster.Tiles.{is_in_rect, window_rect}
-use Rattle.rc_base.specs.Drawing.Nearer.{nearer}
+use Rattle.rc_base.specs.Cluster.Tiles.{window_rect}
 use Rattle.rc_base.specs.Drawing.PixelStep.{effect_step}
 use Rattle.rc_base.specs.Drawing.Serial.{blank_pixel, blank_textures, pixel_step}
-use Rattle.rc_base.specs.Drawing.Window.{depth_most}
 use Rattle.rc_base.specs.Orders.Order.{names_from}
 use Rattle.rc_base.specs.Orders.Sync.{sync_row_of}
 use Rattle.rc_base.specs.declared.scene.Scene.{Scene}
@@ -18,10 +16,10 @@ use Rattle.rc_base.specs.declared.sync.WaitAt.{WaitAt}
 use Rattle.rc_base.specs.declared.window.Pixel.{Pixel}
 use Rattle.rc_base.specs.declared.window.Rect.{Rect}
 use Rattle.textures.specs.Images.{texture_image}
-use Rattle.draw_device.specs.Beside.{IsBeside}
+use Rattle.draw_device.specs.Active.{IsLayer}
 use Rattle.draw_device.specs.Conditions.{shared_of}
-use Rattle.draw_device.specs.Devices.{DeviceView, EachTakes, pixel_of, rect_size}
-use Rattle.serial_render.specs.Steps.{Holds}
+use Rattle.draw_device.specs.Devices.{DeviceView, EachTakes, IsBlankIn}
+use Rattle.draw_device.specs.declared.active.ActivePixels.{ActivePixels}
 use Rattle.sort_last.specs.Layers.{is_clear, layer_pixel}
 use Rattle.sort_last.specs.declared.apart.Batch.{Batch}
 use Rattle.sort_last.specs.declared.apart.ClientNames.{ClientNames}
@@ -92,45 +90,35 @@ pub record IsInBatch (b : Batch) (frame : ℕ) : Type 0 where
   pub low : b.first ≤ frame
   pub less : frame < b.end
 
--- ---- sheets
+-- ---- sheets and layers
 
 -- the window of a scene
 abbrev pub scene_window : Scene → Rect
 scene_window scene = window_rect scene.decl.width scene.decl.height
 
--- no depth of the device lies beyond the far end
-abbrev pub AreNear : DeviceView → Type 0
-AreNear d = (x y : ℤ) → is_in_rect d.rect x y ≡ true → (pixel_of d x y).depth ≤ depth_most
-
--- each pixel becomes that of a layer, where this one is nearer
-abbrev pub TakesNearer : DeviceView → DeviceView → DeviceView → Type 0
-TakesNearer layer before after = EachTakes (λ x y old. nearer old (pixel_of layer x y)) before after
-
--- the sheet is over the rectangle, and blank beside its run
-pub record IsSheet (rect : Rect) (s : Sheet) : Type 0 where
+-- the sheet is over the rectangle, and blank
+pub record IsBlankSheet (rect : Rect) (s : Sheet) : Type 0 where
   pub over : s.device.rect ≡ rect
-  pub order : s.drawn.from ≤ s.drawn.to
-  pub inside : s.drawn.to ≤ rect_size s.device.rect
-  pub beside : (x y : ℤ) → is_in_rect s.device.rect x y ≡ true → IsBeside s.drawn s.device.rect x y → pixel_of s.device x y ≡ blank_pixel
+  pub blank : IsBlankIn rect s.device
 
--- each of them is
-abbrev pub AreSheets : Scene → List Sheet → Type 0
-AreSheets scene sheets = (k : ℕ) (s : Sheet) → k < length sheets → IsSheet (scene_window scene) (slice_index_or sheets k s)
+-- a client's layer of a frame, from 1
+abbrev pub IsClientLayer : Scene → ℕ → ℕ → ActivePixels → Type 0
+IsClientLayer scene client frame a = IsLayer (scene_window scene) (layer_pixel scene client frame) a
 
--- The sheets hold a client's layers of its frames from `first` to below `end`, from the first sheet on. The spare ones behind them are sheets of the window too.
-pub record HoldLayers (scene : Scene) (client first end : ℕ) (sheets : List Sheet) : Type 0 where
-  pub over : AreSheets scene sheets
-  pub room : end ≤ first + length sheets
-  pub each : (k : ℕ) (s : Sheet) → first + k < end → Holds (slice_index_or sheets k s).device (layer_pixel scene client (first + k + 1))
+-- They hold a client's layers of its frames from `first` to below `end`, from the first one on. Those behind them are spare.
+pub record HoldLayers (scene : Scene) (client first end : ℕ) (layers : List ActivePixels) : Type 0 where
+  pub room : end ≤ first + length layers
+  pub each : (k : ℕ) (a : ActivePixels) → first + k < end → IsClientLayer scene client (first + k + 1) (slice_index_or layers k a)
 
--- A client has drawn its frames from 0 up to below `end`, and its sheets hold the layers of those from `first` on: its context stands behind them.
-pub record HasDrawn (scene : Scene) (client first end : ℕ) (x : ClientContext) (sheets : List Sheet) : Type 0 where
-  pub context : x ≡ context_after scene client (start_of (sync_row_of scene client).ops end)
-  pub layers : HoldLayers scene client first end sheets
+-- A client has drawn its frames from 0 up to below `end`, and has the layers of those from `first` on: its context stands behind them, and its sheet is blank.
+pub record HasDrawn (scene : Scene) (client first end : ℕ) (p : Player) : Type 0 where
+  pub context : p.context ≡ context_after scene client (start_of (sync_row_of scene client).ops end)
+  pub sheet : IsBlankSheet (scene_window scene) p.sheet
+  pub layers : HoldLayers scene client first end p.layers.items
 
--- a client has drawn its frames up to below one, and has sheets with those of the batch among them
+-- a client has drawn its frames up to below one, and has the layers of those of the batch among them
 abbrev pub HasPlayed : Batch → ℕ → ℕ → Player → Type 0
-HasPlayed b client frame p = HasDrawn b.scene.now client b.first frame p.context p.sheets.items
+HasPlayed b client frame p = HasDrawn b.scene.now client b.first frame p
 
 -- a client has drawn its frames before the batch
 abbrev pub StartsBatch : Batch → ℕ → Player → Type 0
@@ -144,32 +132,39 @@ EndsBatch b client p = HasPlayed b client b.end p
 abbrev pub IsClientIn : Batch → ℕ → Type 0
 IsClientIn b client = client < length b.scene.now.streams
 
--- there is a sheet for each frame of the batch
-abbrev pub HasSheets : Batch → Player → Type 0
-HasSheets b p = b.end ≤ b.first + length p.sheets.items
+-- there is room for a layer of each frame of the batch
+abbrev pub HasRoom : Batch → Player → Type 0
+HasRoom b p = b.end ≤ b.first + length p.layers.items
+
+-- none of a client's first layers has more active pixels
+abbrev pub AreAtMost : ℕ → ℕ → Player → Type 0
+AreAtMost count most p = (k : ℕ) (a : ActivePixels) → k < count → k < length p.layers.items → length (slice_index_or p.layers.items k a).colors.items ≤ most
+
+-- nor has another client's
+abbrev pub AreAllAtMost : ℕ → ℕ → List Player → Type 0
+AreAllAtMost count most players = (client : ℕ) (p : Player) → client < length players → AreAtMost count most (slice_index_or players client p)
 
 -- there was memory for all layers of each client
 abbrev pub AreWhole : List Player → Type 0
 AreWhole players = (k : ℕ) (p : Player) → k < length players → (slice_index_or players k p).whole ≡ true
 
--- each client has drawn its frames up to below one, and its sheets hold the layers of those from another on
+-- each client has drawn its frames up to below one, and has the layers of those from another on
 pub record HaveDrawn (scene : Scene) (first end : ℕ) (players : List Player) : Type 0 where
   pub count : length players ≡ length scene.streams
-  pub each : (client : ℕ) (p : Player) → client < length scene.streams
-      → HasDrawn scene client first end (slice_index_or players client p).context (slice_index_or players client p).sheets.items
+  pub each : (client : ℕ) (p : Player) → client < length scene.streams → HasDrawn scene client first end (slice_index_or players client p)
 
 -- each client has drawn them that had memory for it
 pub record AreDrawn (scene : Scene) (first end : ℕ) (players : List Player) : Type 0 where
   pub count : length players ≡ length scene.streams
   pub each : (client : ℕ) (p : Player) → client < length scene.streams → (slice_index_or players client p).whole ≡ true
-      → HasDrawn scene client first end (slice_index_or players client p).context (slice_index_or players client p).sheets.items
+      → HasDrawn scene client first end (slice_index_or players client p)
 
 -- ---- layers that are put together
 
--- the sheets of each client hold its layers of the frames from one to below another
+-- the layers of each client are those of its frames from one to below another
 pub record HoldEach (scene : Scene) (first end : ℕ) (layers : List ClientLayers) : Type 0 where
   pub count : length layers ≡ length scene.streams
-  pub each : (client : ℕ) (l : ClientLayers) → client < length scene.streams → HoldLayers scene client first end (slice_index_or layers client l).sheets.items
+  pub each : (client : ℕ) (l : ClientLayers) → client < length scene.streams → HoldLayers scene client first end (slice_index_or layers client l).layers.items
 
 -- those of the batch
 abbrev pub HaveLayers : Batch → List ClientLayers → Type 0

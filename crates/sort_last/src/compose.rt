@@ -1,20 +1,20 @@
 //! The frames of a scene whose clients are drawn apart.
-ghost use Rattle.std.specs.Prelude.{◌≡◌, ◌+◌, ◌<◌, ◌≤◌, fold, map, length, IfOk, OnOk};
+ghost use Rattle.std.specs.Prelude.{◌≡◌, ◌+◌, ◌*◌, ◌<◌, ◌≤◌, fold, map, length, IfOk, OnOk};
 ghost use Rattle.std.specs.List.{range_with_len};
 ghost use Rattle.rc_base.specs.Drawing.Nearer.{nearer};
 ghost use Rattle.rc_base.specs.Formats.Within.{IsWithin};
 ghost use Rattle.rc_base.specs.Orders.Sync.{sync_lists_of};
-ghost use Rattle.draw_device.specs.Devices.{EachTakes};
+ghost use Rattle.draw_device.specs.Devices.{AreNear, EachTakes};
 ghost use Rattle.serial_render.specs.Shown.{images_of};
 ghost use Rattle.sort_last.specs.Apart.{HaveFrames};
 ghost use Rattle.sort_last.specs.Composed.{IsComposed, IsUpTo, IsComposing};
 ghost use Rattle.sort_last.specs.Layers.{composed_pixel, layer_pixel};
 ghost use Rattle.sort_last.specs.Offends.{IsComposable};
-ghost use Rattle.sort_last.specs.Players.{scene_window, AreNear, IsInBatch, HaveDrawn, HoldEach, HaveLayers, Follows};
+ghost use Rattle.sort_last.specs.Players.{scene_window, IsInBatch, HaveDrawn, HoldEach, HaveLayers, Follows};
 
 use crate::apart::Batch;
 use crate::play::{DrawPass, play};
-use crate::player::{Player, draw_batch, exchange_sheets, frame_names, players_of};
+use crate::player::{Player, draw_batch, exchange_layers, frame_names, longest_layer, players_of};
 use crate::sheet::{ClientLayers, layers_at, no_layers};
 use command_store::StoredScene;
 use draw_device::Device;
@@ -28,23 +28,41 @@ use std::alloc::Global;
 use std::thread::{Threads, join_mut};
 use textures::SharedSet;
 
-// So many pixels of a client are drawn ahead, eight bytes each, and as many that were drawn before are put together meanwhile.
+// So many active pixels of a client are drawn ahead, eight bytes each, and as many that were drawn before are put together meanwhile.
 const PIXELS_AHEAD: usize = 1_048_576;
 
-// How many frames are drawn ahead in a window: as many as a client's layers of them have one million pixels, and one at least. So threads are
-// started once for much work, also where frames are small, and a frame that is dearer for one client than for the others keeps them waiting less.
-fn frames_ahead(decl: &Decl) -> usize
-    ensures { 0 < result }
+// At most so many, whatever the next layers are: they may fill the window though those before them were small.
+const MOST_AHEAD: usize = 4_194_304;
+
+// How many pixels the window has.
+fn window_size(decl: &Decl) -> usize
+    ensures { result ≡ decl.now.width * decl.now.height }
 {
-    let pixels = usize::from(decl.width) * usize::from(decl.height);
-    if pixels == 0 {
-        return 1;
-    }
-    let frames = PIXELS_AHEAD / pixels;
-    if frames == 0 { 1 } else { frames }
+    usize::from(decl.width) * usize::from(decl.height)
 }
 
-// Where a batch of so many frames ends, or the last frame.
+// How many layers have room, of so many pixels each; and one at least.
+fn layers_in(room: usize, pixels: usize) -> usize
+    ensures { 0 < result }
+{
+    if pixels == 0 {
+        return if room == 0 { 1 } else { room };
+    }
+    let layers = room / pixels;
+    if layers == 0 { 1 } else { layers }
+}
+
+// How many frames are drawn ahead, where the longest layer before them had so many active pixels. So threads are started once for much work, also where
+// frames are small or little is drawn in each, and a frame that is dearer for one client than for the others keeps them waiting less.
+fn frames_ahead(decl: &Decl, longest: usize) -> usize
+    ensures { 0 < result }
+{
+    let most = layers_in(MOST_AHEAD, window_size(decl));
+    let frames = layers_in(PIXELS_AHEAD, longest);
+    if most < frames { most } else { frames }
+}
+
+// Where a batch of so many frames ends, or where it has half of the frames that are left: the last ones are put together while nothing is drawn beside.
 fn batch_end(first: usize, ahead: usize, count: usize) -> usize
     requires first { first ≤ count }
     requires ahead { 0 < ahead }
@@ -52,8 +70,10 @@ fn batch_end(first: usize, ahead: usize, count: usize) -> usize
     ensures some { first < count → first < result }
     ensures most { result ≤ count }
 {
-    if count - first < ahead {
-        count
+    let left = count - first;
+    let half = left - left / 2;
+    if half < ahead {
+        first + half
     } else {
         first + ahead
     }
@@ -71,9 +91,8 @@ fn put_layers(batch: &Batch<'_>, layers: &[ClientLayers], device: &mut Device, f
         (range_with_len 0 (length batch.now.scene.now.streams)))) device.old device.new }
 {
     for client in 0..layers.len() {
-        layers_at(layers, client)
-            .layer(frame - batch.first)
-            .put_before(device);
+        let layer = layers_at(layers, client).layer(frame - batch.first);
+        device.take_nearer(layer);
     }
 }
 
@@ -216,7 +235,7 @@ impl Composition {
         requires before { IsUpTo batch.now.scene.now batch.now.first batch.now.end self.old }
         ensures { OnOk result (IsUpTo batch.now.scene.now batch.now.end next.now.end self.new) }
     {
-        exchange_sheets(
+        exchange_layers(
             batch,
             self.players.as_mut_slice(),
             self.window.layers.as_mut_slice(),
@@ -241,12 +260,13 @@ impl Composition {
         requires { IsUpTo all.now.scene.now all.now.first all.now.first self.old }
         ensures { OnOk result (IsUpTo all.now.scene.now all.now.end all.now.end self.new) }
     {
-        let ahead = frames_ahead(all.scene.decl());
+        let decl = all.scene.decl();
         let mut first = all.first;
-        let mut end = batch_end(first, ahead, all.end);
+        let mut end = batch_end(first, frames_ahead(decl, window_size(decl)), all.end);
         self.draw_first(rt, alloc, &all.part(first, end))?;
         'batches: while first < all.end {
-            let next_end = batch_end(end, ahead, all.end);
+            let longest = longest_layer(self.players.as_slice(), end - first);
+            let next_end = batch_end(end, frames_ahead(decl, longest), all.end);
             let batch = all.part(first, end);
             let next = all.part(end, next_end);
             self.show_batch(rt, alloc, &batch, &next)?;

@@ -1,12 +1,13 @@
 //! A client that draws its frames alone.
 ghost use Rattle.std.specs.Prelude.{◌≡◌, ℕ, ◌+◌, ◌<◌, ◌≤◌, length, true, IfOk, OnOk};
 ghost use Rattle.rc_base.specs.Orders.Sync.{client_count, client_row};
-ghost use Rattle.sort_last.specs.Players.{start_of, AreNamesOf, IsInBatch, HasDrawn, IsClientIn, HasPlayed, StartsBatch, EndsBatch, HasSheets};
-ghost use Rattle.sort_last.specs.Players.{HaveDrawn, HoldEach, HaveLayers, AreDrawn, AreWhole};
+ghost use Rattle.sort_last.specs.Players.{start_of, AreNamesOf, IsInBatch, HasDrawn, IsClientIn, HasPlayed, StartsBatch, EndsBatch, HasRoom};
+ghost use Rattle.sort_last.specs.Players.{HaveDrawn, HoldEach, HaveLayers, AreDrawn, AreWhole, AreAtMost, AreAllAtMost};
 
 use crate::apart::{Batch, ClientNames};
 use crate::sheet::{ClientLayers, Sheet};
 use command_store::StoredScene;
+use draw_device::ActivePixels;
 use gl_context::Context;
 use rayon::prelude::*;
 use rc_base::out_of_memory::OutOfMemory;
@@ -59,8 +60,10 @@ pub(crate) fn frame_names(batch: &Batch<'_>, client: usize, frame: usize) -> Cli
 pub(crate) struct Player {
     /// The context behind its last frame.
     context: Context,
-    /// The layers of its last frames, from the first one of a batch on, and spare sheets.
-    sheets: Vec<Sheet>,
+    /// What it draws on.
+    sheet: Sheet,
+    /// The layers of its last frames, from the first one of a batch on, and spare ones.
+    layers: Vec<ActivePixels>,
     /// There was memory for all of them.
     whole: bool,
 }
@@ -68,17 +71,17 @@ pub(crate) struct Player {
 impl Player {
     /// A client before its first frame.
     fn new(alloc: Global, scene: &StoredScene) -> Result<Player, OutOfMemory>
-        ensures { IfOk result
-            (λ p. (client : ℕ) → HasDrawn scene.now client 0 0 p.context p.sheets.items) }
+        ensures { IfOk result (λ p. (client : ℕ) → HasDrawn scene.now client 0 0 p) }
     {
         Ok(Player {
             context: Context::new(alloc, scene.decl())?,
-            sheets: Vec::new(alloc),
+            sheet: Sheet::new(alloc, scene.decl())?,
+            layers: Vec::new(alloc),
             whole: true,
         })
     }
 
-    // Sees that there is a sheet for each frame of the batch.
+    // Sees that there is room for a layer of each frame of the batch.
     fn make_room(
         &mut self,
         alloc: Global,
@@ -87,11 +90,11 @@ impl Player {
     ) -> Result<(), OutOfMemory>
         requires before { StartsBatch batch.now client self.old }
         ensures after { OnOk result (StartsBatch batch.now client self.new) }
-        ensures room { OnOk result (HasSheets batch.now self.new) }
+        ensures room { OnOk result (HasRoom batch.now self.new) }
     {
         let _client = client;
-        for _ in self.sheets.len()..batch.end - batch.first {
-            self.sheets.push(Sheet::new(alloc, batch.scene.decl())?)?;
+        for _ in self.layers.len()..batch.end - batch.first {
+            self.layers.push(ActivePixels::none(alloc))?;
         }
         Ok(())
     }
@@ -105,13 +108,18 @@ impl Player {
     ) -> Result<(), OutOfMemory>
         requires client { IsClientIn batch.now client }
         requires frame { IsInBatch batch.now frame }
-        requires room { HasSheets batch.now self.old }
+        requires room { HasRoom batch.now self.old }
         requires before { HasPlayed batch.now client frame self.old }
-        ensures room { OnOk result (HasSheets batch.now self.new) }
+        ensures room { OnOk result (HasRoom batch.now self.new) }
         ensures after { OnOk result (HasPlayed batch.now client (frame + 1) self.new) }
     {
         let names = frame_names(batch, client, frame);
-        self.sheets[frame - batch.first].draw(batch, names, &mut self.context)?;
+        self.sheet.draw(
+            batch,
+            names,
+            &mut self.context,
+            &mut self.layers[frame - batch.first],
+        )?;
         Ok(())
     }
 
@@ -142,13 +150,27 @@ impl Player {
         self.whole = self.draw_each(alloc, batch, client).is_ok();
     }
 
-    /// Its sheets and those that were put together change places.
+    // A number of pixels that none of its first layers exceeds.
+    fn longest(&self, count: usize) -> usize
+        ensures { AreAtMost count result self.now }
+    {
+        let mut most = 0;
+        for k in 0..self.layers.len() {
+            if k < count && most < self.layers[k].count() {
+                most = self.layers[k].count();
+            }
+        }
+        most
+    }
+
+    /// Its layers and those that were put together change places.
     fn exchange(&mut self, layers: &mut ClientLayers)
         ensures context { self.new.context ≡ self.old.context }
-        ensures sheets { self.new.sheets ≡ layers.old.sheets }
-        ensures layers { layers.new.sheets ≡ self.old.sheets }
+        ensures sheet { self.new.sheet ≡ self.old.sheet }
+        ensures drawn { self.new.layers ≡ layers.old.layers }
+        ensures layers { layers.new.layers ≡ self.old.layers }
     {
-        std::mem::swap(&mut self.sheets, &mut layers.sheets);
+        std::mem::swap(&mut self.layers, &mut layers.layers);
     }
 }
 
@@ -180,6 +202,20 @@ fn draw_layers(rt: &(impl Threads + Sync), alloc: Global, batch: &Batch<'_>, pla
     );
 }
 
+/// A number of active pixels that none of the clients' first layers exceeds.
+pub(crate) fn longest_layer(players: &[Player], count: usize) -> usize
+    ensures { AreAllAtMost count result players.now }
+{
+    let mut most = 0;
+    for client in 0..players.len() {
+        let longest = players[client].longest(count);
+        if most < longest {
+            most = longest;
+        }
+    }
+    most
+}
+
 // There was memory for all layers.
 fn are_whole(players: &[Player]) -> bool
     ensures { result ≡ true → AreWhole players.now }
@@ -192,8 +228,8 @@ fn are_whole(players: &[Player]) -> bool
     true
 }
 
-/// Of each client, the sheets with its layers of the batch change places with those that were put together before it.
-pub(crate) fn exchange_sheets(
+/// Of each client, its layers of the batch change places with those that were put together before it.
+pub(crate) fn exchange_layers(
     batch: &Batch<'_>,
     players: &mut [Player],
     layers: &mut [ClientLayers],

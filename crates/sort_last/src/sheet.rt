@@ -1,87 +1,76 @@
-//! A client's layer of a frame, on a device that is kept from frame to frame.
+//! A client's layer of a frame, drawn on a sheet that is blank before it and behind it.
 ghost use Rattle.std.specs.Prelude.{◌≡◌, ◌<◌, length, slice_index_or, IfOk, OnOk};
 ghost use Rattle.rc_base.specs.Cluster.Tiles.{window_rect};
 ghost use Rattle.rc_base.specs.Drawing.Serial.{blank_pixel};
-ghost use Rattle.serial_render.specs.Steps.{Holds};
+ghost use Rattle.draw_device.specs.Active.{IsLayer};
 ghost use Rattle.sort_last.specs.Players.{StandIn, context_before, context_behind, pixel_behind};
-ghost use Rattle.sort_last.specs.Players.{scene_window, AreNear, TakesNearer, IsSheet, HoldEach};
+ghost use Rattle.sort_last.specs.Players.{scene_window, IsBlankSheet, HoldEach};
 ghost use Rattle.sort_last.specs.declared.sheet.ClientLayers.{ClientLayers as TheLayers};
 ghost use Rattle.sort_last.specs.declared.play.DrawPass.TheVariants as passes;
 
 use crate::apart::{Batch, ClientNames};
 use crate::play::{DrawPass, play};
 use command_store::StoredScene;
-use draw_device::{Device, PixelRun};
+use draw_device::{ActivePixels, Device};
 use gl_context::Context;
 use rc_base::out_of_memory::OutOfMemory;
 use rc_base::scene::Decl;
 use serial_render::window;
 use std::alloc::Global;
 
-/// A device over the window, and the run of its pixels beside which it is blank. So neither blanking it nor putting it before the window goes through all of it.
+/// A device over the window, blank from one layer to the next.
 #[derive(Drop)]
 pub(crate) struct Sheet {
     device: Device,
-    drawn: PixelRun,
 }
 
 impl Sheet {
     /// A blank one.
     pub(crate) fn new(alloc: Global, decl: &Decl) -> Result<Sheet, OutOfMemory>
-        ensures { IfOk result (λ s. IsSheet (window_rect decl.now.width decl.now.height) s) }
+        ensures { IfOk result (λ s. IsBlankSheet (window_rect decl.now.width decl.now.height) s) }
     {
         let device = Device::new(alloc, window(decl))?;
-        Ok(Sheet {
-            device,
-            drawn: PixelRun { from: 0, to: 0 },
-        })
+        Ok(Sheet { device })
     }
 
-    /// Draws the layer of these commands of a client.
+    /// Draws the layer of these commands of a client, keeps its active pixels, and blanks the run in which they stand. So neither blanking the sheet nor putting
+    /// the layer before the window goes through all of it.
     pub(crate) fn draw(
         &mut self,
         batch: &Batch<'_>,
         names: ClientNames,
         context: &mut Context,
+        layer: &mut ActivePixels,
     ) -> Result<(), OutOfMemory>
         requires names { StandIn batch.now.scene.now names }
         requires before { context.old ≡ context_before batch.now.scene.now names }
-        requires sheet { IsSheet (scene_window batch.now.scene.now) self.old }
+        requires sheet { IsBlankSheet (scene_window batch.now.scene.now) self.old }
         ensures context { OnOk result (context.new ≡ context_behind batch.now.scene.now names) }
-        ensures sheet { OnOk result (IsSheet (scene_window batch.now.scene.now) self.new) }
-        ensures layer { OnOk result (Holds self.new.device
-            (λ x y. pixel_behind batch.now.scene.now passes.Layer names x y blank_pixel)) }
+        ensures sheet { OnOk result (IsBlankSheet (scene_window batch.now.scene.now) self.new) }
+        ensures layer { OnOk result (IsLayer (scene_window batch.now.scene.now)
+            (λ x y. pixel_behind batch.now.scene.now passes.Layer names x y blank_pixel) layer.new) }
     {
-        self.device.blank(self.drawn);
         play(DrawPass::Layer, batch, names, context, &mut self.device)?;
-        self.drawn = self.device.drawn();
+        let run = self.device.drawn();
+        self.device.copy_active(run, layer)?;
+        self.device.blank(run);
         Ok(())
-    }
-
-    /// The window's pixels become those of the sheet, where these are nearer.
-    pub(crate) fn put_before(&self, window: &mut Device)
-        requires sheet { IsSheet window.old.rect self.now }
-        requires near { AreNear window.old }
-        ensures rect { window.new.rect ≡ window.old.rect }
-        ensures nearer { TakesNearer self.now.device window.old window.new }
-    {
-        window.take_nearer(&self.device, self.drawn);
     }
 }
 
-/// A client's sheets that are put together: the layers of a batch's frames, from its first one on, and spare sheets.
+/// A client's layers that are put together: those of a batch's frames, from its first one on, and spare ones.
 #[derive(Drop)]
 pub(crate) struct ClientLayers {
-    pub(crate) sheets: Vec<Sheet>,
+    pub(crate) layers: Vec<ActivePixels>,
 }
 
 impl ClientLayers {
     /// The layer of a frame, by its place from the first frame of the batch on.
-    pub(crate) fn layer(&self, place: usize) -> &Sheet
-        requires { place < length self.now.sheets.items }
-        ensures { result.now ≡ slice_index_or self.now.sheets.items place result.now }
+    pub(crate) fn layer(&self, place: usize) -> &ActivePixels
+        requires { place < length self.now.layers.items }
+        ensures { result.now ≡ slice_index_or self.now.layers.items place result.now }
     {
-        &self.sheets[place]
+        &self.layers[place]
     }
 }
 
@@ -95,7 +84,7 @@ pub(crate) fn no_layers(
     let mut layers = Vec::new(alloc);
     for _ in 0..scene.streams().len() {
         layers.push(ClientLayers {
-            sheets: Vec::new(alloc),
+            layers: Vec::new(alloc),
         })?;
     }
     Ok(layers)

@@ -2,7 +2,6 @@ pub mod Boxes
 pub mod Cluster
 pub mod Contexts
 pub mod Cores
-pub mod Drawing
 pub mod Formats
 pub mod Jobs
 pub mod Orders

@@ -5,31 +5,31 @@ use Rattle.rc_base.specs.Drawing.Nearer.{nearer}
 use Rattle.rc_base.specs.Drawing.Window.{depth_most}
 use Rattle.rc_base.specs.declared.window.Pixel.{Pixel}
 use Rattle.rc_base.specs.declared.window.Rect.{Rect}
-use Rattle.draw_device.specs.Devices.{pixel_of}
+use Rattle.draw_device.specs.Active.{FitAmong, IsLayer}
+use Rattle.draw_device.specs.Devices.{pixel_of, rect_size}
 use Rattle.sort_last.specs.Layers.{layer_pixel}
-use Rattle.sort_last.specs.Players.{IsSheet}
 use Rattle.sort_last.proofs.ComposedFrames.{layers_more, layers_near}
-use Rattle.sort_last.proofs.DrawnFrames.{sheet_inside, sheet_is, sheet_holds}
+use Rattle.sort_last.proofs.DrawnFrames.{layer_inside, layer_is}
 use Rattle.sort_last.proofs.compose.put_layers.Goals as goal
 
 pub loop-client-init : goal.loop-client-init
 loop-client-init c = record { rect = refl; drawn = λ x y inside. refl }
 
-pub layer-requires : goal.layer-requires
-layer-requires c =
+pub layer-layer-requires : goal.layer-layer-requires
+layer-layer-requires c =
     let a = c.args in
-    sheet_inside a.batch.now.scene.now a.batch.now.first a.frame a.batch.now.end c.loop-client.client a.layers.now c.layers_at.result.now c.requires.frame.low c.requires.frame.less c.requires.layers
+    layer_inside a.batch.now.scene.now a.batch.now.first a.frame a.batch.now.end c.loop-client.client a.layers.now c.layers_at.result.now c.requires.frame.low c.requires.frame.less c.requires.layers
     (omega (arith, c.loop-client-test.true)) (c.layers_at.ensures c.layers_at.result.now)
 
-pub put_before-requires-clause-sheet : goal.put_before-requires-clause-sheet
-put_before-requires-clause-sheet c =
+pub take_nearer-requires-clause-fit : goal.take_nearer-requires-clause-fit
+take_nearer-requires-clause-fit c =
     let a = c.args in
-    subst (λ (r : Rect). IsSheet r c.layer.result.now) (sym (c.loop-client.invariant.rect ∙ c.requires.rect))
-    (sheet_is a.batch.now.scene.now a.batch.now.first a.frame a.batch.now.end c.loop-client.client a.layers.now c.layers_at.result.now c.requires.frame.low c.requires.frame.less c.requires.layers
-    (omega (arith, c.loop-client-test.true)) (c.layers_at.ensures c.layers_at.result.now) c.layer.result.now c.layer.ensures)
+    subst (λ (r : Rect). FitAmong (rect_size r) c.layer-layer.result.now) (sym (c.loop-client.invariant.rect ∙ c.requires.rect))
+    (layer_is a.batch.now.scene.now a.batch.now.first a.frame a.batch.now.end c.loop-client.client a.layers.now c.layers_at.result.now c.requires.frame.low c.requires.frame.less c.requires.layers
+    (omega (arith, c.loop-client-test.true)) (c.layers_at.ensures c.layers_at.result.now) c.layer-layer.result.now c.layer-layer.ensures).fit
 
-pub put_before-requires-clause-near : goal.put_before-requires-clause-near
-put_before-requires-clause-near c x y inside =
+pub take_nearer-requires-clause-near : goal.take_nearer-requires-clause-near
+take_nearer-requires-clause-near c x y inside =
     let a = c.args in
     let i = c.loop-client.invariant in
     let old : is_in_rect a.device.now.rect x y ≡ true = ap (λ (r : Rect). is_in_rect r x y) (sym i.rect) ∙ inside in
@@ -43,17 +43,15 @@ loop-client-preserved c =
     let i = c.loop-client.invariant in
     let client = c.loop-client.client in
     let lt : client < length a.layers.now = omega (arith, c.loop-client-test.true) in
-    let sheet = c.layer.result.now in
-    let is = sheet_is s a.batch.now.first a.frame a.batch.now.end client a.layers.now c.layers_at.result.now c.requires.frame.low c.requires.frame.less c.requires.layers lt (c.layers_at.ensures c.layers_at.result.now) sheet c.layer.ensures in
-    let holds = sheet_holds s a.batch.now.first a.frame a.batch.now.end client a.layers.now c.layers_at.result.now c.requires.frame.low c.requires.frame.less c.requires.layers lt (c.layers_at.ensures c.layers_at.result.now) sheet c.layer.ensures in
+    let layer = layer_is s a.batch.now.first a.frame a.batch.now.end client a.layers.now c.layers_at.result.now c.requires.frame.low c.requires.frame.less c.requires.layers lt
+    (c.layers_at.ensures c.layers_at.result.now) c.layer-layer.result.now c.layer-layer.ensures in
+    let here = subst (λ (r : Rect). IsLayer r (layer_pixel s client (a.frame + 1)) c.layer-layer.result.now) (sym (i.rect ∙ c.requires.rect)) layer in
     record {
-      rect = c.put_before.ensures.rect ∙ i.rect;
+      rect = c.take_nearer.ensures.rect ∙ i.rect;
       drawn = λ x y inside.
           let f = λ (k : ℕ). layer_pixel s k (a.frame + 1) x y in
-          let here : is_in_rect c.loop-client.device.rect x y ≡ true = ap (λ (r : Rect). is_in_rect r x y) i.rect ∙ inside in
-          let there : is_in_rect sheet.device.rect x y ≡ true = ap (λ (r : Rect). is_in_rect r x y) (is.over ∙ sym c.requires.rect) ∙ inside in
-          c.put_before.ensures.nearer x y here
-          ∙ (λ j. nearer (i.drawn x y inside j) (holds x y there j))
+          c.take_nearer.ensures.nearer (layer_pixel s client (a.frame + 1)) here x y (ap (λ (r : Rect). is_in_rect r x y) i.rect ∙ inside)
+          ∙ ap (λ p. nearer p (f client)) (i.drawn x y inside)
           ∙ sym (layers_more f (pixel_of a.device.now x y) client);
     }
 

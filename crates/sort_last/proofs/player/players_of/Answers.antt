@@ -10,6 +10,6 @@ loop-preserved c =
     let p = c.in_ok-new.field-0 in
     record {
       count = omega (arith, ap length c.in_ok-push.ensures.items, length-append c.loop.players.items (p ∷ []), i.count);
-      each = client_pushed (λ client (q : Player). HasDrawn c.args.scene.now client 0 0 q.context q.sheets.items) c.loop.players.items c.push.new.self.items p c.loop.counter i.count
+      each = client_pushed (λ client (q : Player). HasDrawn c.args.scene.now client 0 0 q) c.loop.players.items c.push.new.self.items p c.loop.counter i.count
           c.in_ok-push.ensures.items i.each (c.in_ok-new.ensures c.loop.counter);
     }

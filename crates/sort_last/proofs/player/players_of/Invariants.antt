@@ -8,5 +8,5 @@ abbrev pub invariant-loop : goal.invariant-loop
 invariant-loop l = record {
   count : length l.players.items ≡ l.counter;
   each : (client : ℕ) (p : Player) → client < l.counter
-      → HasDrawn l.scene client 0 0 (slice_index_or l.players.items client p).context (slice_index_or l.players.items client p).sheets.items;
+      → HasDrawn l.scene client 0 0 (slice_index_or l.players.items client p);
 }

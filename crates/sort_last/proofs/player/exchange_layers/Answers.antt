@@ -1,12 +1,12 @@
 use Rattle.std.proofs.Common.{◌<◌, sym, ◌∙◌, subst, refl, length, arith}
 use Rattle.std.specs.Prelude.{Vec}
 use Rattle.std.specs.Global.{Global}
-use Rattle.sort_last.specs.Players.{AreSheets, HoldLayers, HasDrawn}
+use Rattle.draw_device.specs.declared.active.ActivePixels.{ActivePixels}
+use Rattle.sort_last.specs.Players.{HoldLayers, HasDrawn, IsBlankSheet, scene_window}
 use Rattle.sort_last.specs.declared.player.Player.{Player}
 use Rattle.sort_last.specs.declared.sheet.ClientLayers.{ClientLayers}
-use Rattle.sort_last.specs.declared.sheet.Sheet.{Sheet}
 use Rattle.sort_last.proofs.DrawnFrames.{no_frames, client_set, clients_left}
-use Rattle.sort_last.proofs.player.exchange_sheets.Goals as goal
+use Rattle.sort_last.proofs.player.exchange_layers.Goals as goal
 
 pub loop-client-init : goal.loop-client-init
 loop-client-init c =
@@ -31,17 +31,17 @@ loop-client-preserved c =
     let in_layers : client < length c.loop-client.layers =
     omega (arith, c.loop-client-test.true, c.loop-client.auto.layers, c.requires.drawn.count, c.requires.spare.count) in
     let had = i.drawn_left client c.index-players-client.result (omega arith) in_players in
-    let spare = i.held_left client c.index-layers-client.result (omega arith) in_layers in
-    let drawn : HasDrawn s client b.end b.end p.context p.sheets.items = record {
+    let drawn : HasDrawn s client b.end b.end p = record {
       context = e.context ∙ had.context;
-      layers = no_frames s client b.end p.sheets.items (subst (λ (v : Vec Sheet Global). AreSheets s v.items) (sym e.sheets) spare.over);
+      sheet = subst (IsBlankSheet (scene_window s)) (sym e.sheet) had.sheet;
+      layers = no_frames s client b.end p.layers.items;
     } in
-    let held : HoldLayers s client b.first b.end m.sheets.items = subst (λ (v : Vec Sheet Global). HoldLayers s client b.first b.end v.items) (sym e.layers) had.layers in
+    let held : HoldLayers s client b.first b.end m.layers.items = subst (λ (v : Vec ActivePixels Global). HoldLayers s client b.first b.end v.items) (sym e.layers) had.layers in
     record {
-      drawn = client_set (λ k (q : Player). HasDrawn s k b.end b.end q.context q.sheets.items) c.loop-client.players _ p client in_players refl i.drawn drawn;
-      drawn_left = clients_left (λ k (q : Player). HasDrawn s k b.first b.end q.context q.sheets.items) c.loop-client.players _ p client in_players refl i.drawn_left;
-      held = client_set (λ k (l : ClientLayers). HoldLayers s k b.first b.end l.sheets.items) c.loop-client.layers _ m client in_layers refl i.held held;
-      held_left = clients_left (λ k (l : ClientLayers). HoldLayers s k b.first b.first l.sheets.items) c.loop-client.layers _ m client in_layers refl i.held_left;
+      drawn = client_set (λ k (q : Player). HasDrawn s k b.end b.end q) c.loop-client.players _ p client in_players refl i.drawn drawn;
+      drawn_left = clients_left (λ k (q : Player). HasDrawn s k b.first b.end q) c.loop-client.players _ p client in_players refl i.drawn_left;
+      held = client_set (λ k (l : ClientLayers). HoldLayers s k b.first b.end l.layers.items) c.loop-client.layers _ m client in_layers refl i.held held;
+      held_left = clients_left (λ k (l : ClientLayers). HoldLayers s k b.first b.first l.layers.items) c.loop-client.layers _ m client in_layers refl i.held_left;
     }
 
 pub returns-clause-players : goal.returns-clause-players
