@@ -10,7 +10,7 @@ use Rattle.rc_base.specs.declared.window.WindowVertex.{WindowVertex}
 use Rattle.rc_base.specs.declared.window.ClipVertex.{ClipVertex}
 use Rattle.geometry.specs.declared.cut_triangle.Pieces.{Pieces}
 use Rattle.geometry.specs.declared.cutting.Point.{Point}
-use Rattle.rc_base.specs.Drawing.Pieces.{front_pieces, kept_pieces, vertex_pieces}
+use Rattle.rc_base.specs.Drawing.Pieces.{front_pieces, vertex_pieces}
 use Rattle.rc_base.specs.Drawing.Window.{clip_vertex, window_at, is_placed_at}
 use Rattle.rc_base.specs.Drawing.Kept.{kept_at, vertex_at}
 
@@ -21,6 +21,12 @@ IsPlaceAt s c place = MatchOption place (is_placed_at s c ≡ false) (λ p. (is_
 -- the point says where it stands
 abbrev pub IsPoint : State → Point → Type 0
 IsPoint s p = IsPlaceAt s p.vertex p.place
+
+-- each of three points does
+pub record ArePoints (s : State) (a b c : Point) : Type 0 where
+  pub first : IsPoint s a
+  pub second : IsPoint s b
+  pub third : IsPoint s c
 
 -- piece k of some, in window coordinates, where there is one and it is kept
 abbrev pub kept_piece : State → List (List ClipVertex) → ℕ → Option (List WindowVertex)
@@ -37,10 +43,6 @@ front_pieces_of s vs = front_pieces (clip_vertex s (vertex_at vs 0)) (clip_verte
 -- its pieces in a block of that mode, in clip coordinates
 abbrev pub corner_pieces : State → ℕ → List Vertex → List (List ClipVertex)
 corner_pieces s mode vs = vertex_pieces s mode (vertex_at vs 0) (vertex_at vs 1) (vertex_at vs 2)
-
--- those of them that are kept, in the window
-abbrev pub kept_corner_pieces : State → ℕ → List Vertex → List (List WindowVertex)
-kept_corner_pieces s mode vs = kept_pieces s mode (vertex_at vs 0) (vertex_at vs 1) (vertex_at vs 2)
 
 -- the corners of a triangle, if there is one
 abbrev pub found : Option WindowTriangle → List (List WindowVertex)

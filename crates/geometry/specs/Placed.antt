@@ -1,5 +1,5 @@
 -- Vertices brought to the window, and the matrices that are not worth a product.
-use Rattle.std.specs.Prelude.{◌≡◌, ◌<◌, ◌^◌, true, false, List, length, slice_index, ℕ, ℤ, pos, int_le, Bool, ◌&&◌, Option, MatchOption}
+use Rattle.std.specs.Prelude.{◌≡◌, ◌<◌, ◌^◌, true, false, List, length, slice_index, ℕ, ℤ, pos, ◌<ℤ◌, int_le, Bool, ◌&&◌, Option, MatchOption}
 use Rattle.rc_base.specs.Numbers.{entry, is_within, transformed, Within}
 use Rattle.rc_base.specs.Drawing.Cover.{IsInBounds}
 use Rattle.rc_base.specs.Drawing.Kept.{vertex_at}
@@ -32,6 +32,18 @@ pub record AreIdentities (s : State) (i : Identities) : Type 0 where
 -- neither matrix is said to move a vector, and the viewport and the depth range are said to be usual ones
 abbrev pub are_still : Identities → Bool
 are_still i = i.modelview && (i.projection && i.usual)
+
+-- a clip coordinate and w, which is above 0, each small enough for the products of the division
+pub record IsClipRatio (z w : ℤ) : Type 0 where
+  pub positive : pos 0 <ℤ w
+  pub coordinate : Within (2 ^ 65) z
+  pub divisor : Within (2 ^ 65) w
+
+-- three corners lie within the bounds of window coordinates
+pub record AreInBounds (a b c : WindowVertex) : Type 0 where
+  pub first : IsInBounds a
+  pub second : IsInBounds b
+  pub third : IsInBounds c
 
 -- where a vertex stands in the window: nowhere, if it isn't placed
 abbrev pub IsPlace : State → Vertex → Option WindowVertex → Type 0

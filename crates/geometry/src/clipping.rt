@@ -4,7 +4,7 @@ ghost use Rattle.rc_base.specs.Numbers.{Within, is_within, floor_quotient, natur
 ghost use Rattle.geometry.specs.Placed.{AreIdentities};
 ghost use Rattle.rc_base.specs.Drawing.Window.{clip_vertex};
 ghost use Rattle.rc_base.specs.Drawing.Pieces.{clip_bound, near_w, is_cuttable, is_in_front, crossing_point};
-ghost use Rattle.geometry.specs.Fractions.{IsBetweenEnds};
+ghost use Rattle.geometry.specs.Fractions.{CrossesNear, IsBetweenEnds};
 
 use crate::fraction::Fraction;
 use crate::identities::Identities;
@@ -128,10 +128,7 @@ fn crossing_channel(from: u8, to: u8, fraction: Fraction) -> u8
 
 // How much of the edge from a vertex in front to one behind is in front.
 fn fraction_of(a: &ClipVertex, b: &ClipVertex) -> Fraction
-    requires front { is_in_front a.now ≡ true }
-    requires behind { is_in_front b.now ≡ false }
-    requires from { is_cuttable a.now ≡ true }
-    requires to { is_cuttable b.now ≡ true }
+    requires { CrossesNear a.now b.now }
     ensures part { result.part ≡ a.now.w -ℤ pos near_w }
     ensures whole { result.whole ≡ a.now.w -ℤ b.now.w }
 {
@@ -144,10 +141,7 @@ fn fraction_of(a: &ClipVertex, b: &ClipVertex) -> Fraction
 /// Where the edge from a vertex in front to one behind meets the near plane.
 #[tactic(auto, unfolding(rc_base::specs::Drawing::Pieces::crossing_point))]
 pub(crate) fn crossing_point(a: &ClipVertex, b: &ClipVertex) -> ClipVertex
-    requires front { is_in_front a.now ≡ true }
-    requires behind { is_in_front b.now ≡ false }
-    requires from { is_cuttable a.now ≡ true }
-    requires to { is_cuttable b.now ≡ true }
+    requires { CrossesNear a.now b.now }
     ensures { result ≡ crossing_point a.now b.now }
 {
     let fraction = fraction_of(a, b);

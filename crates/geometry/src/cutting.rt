@@ -1,10 +1,10 @@
 //! The pieces of a triangle of a block: itself, or what of it is in front of the near plane.
 ghost use Rattle.std.specs.Prelude.{◌≡◌, ◌^◌, ◌<◌, ◌∷◌, [], pos, true, false, None, Some, MatchOption};
 ghost use Rattle.rc_base.specs.Numbers.{Within};
-ghost use Rattle.rc_base.specs.Drawing.Kept.{three, oriented, is_kept_at};
+ghost use Rattle.rc_base.specs.Drawing.Kept.{three, oriented, is_kept_at, vertex_at};
 ghost use Rattle.rc_base.specs.Drawing.Window.{window_at};
-ghost use Rattle.rc_base.specs.Drawing.Pieces.{is_cuttable, fan_of, polygon_of};
-ghost use Rattle.geometry.specs.Pieces.{IsPlaceAt, IsPoint, IsPiece, ArePieces, found_in, front_pieces_of, corner_pieces, kept_corner_pieces};
+ghost use Rattle.rc_base.specs.Drawing.Pieces.{is_cuttable, fan_of, polygon_of, kept_pieces};
+ghost use Rattle.geometry.specs.Pieces.{IsPlaceAt, IsPoint, ArePoints, IsPiece, ArePieces, found_in, front_pieces_of, corner_pieces};
 
 use crate::clipping::{crossing_point, cuttable_vertex, is_in_front};
 use crate::cut_triangle::Pieces;
@@ -62,9 +62,7 @@ fn point_at(state: &State, vertex: ClipVertex) -> Point
 // The oriented triangle, where it has an area and isn't culled.
 #[tactic(auto, unfolding(rc_base::specs::Drawing::Kept::is_kept_at))]
 fn shown(state: &State, a: &Point, b: &Point, c: &Point) -> Option<WindowTriangle>
-    requires a { IsPoint state.now a.now }
-    requires b { IsPoint state.now b.now }
-    requires c { IsPoint state.now c.now }
+    requires { ArePoints state.now a.now b.now c.now }
     ensures { MatchOption result
         (is_kept_at state.now (a.now.vertex ∷ b.now.vertex ∷ c.now.vertex ∷ []) ≡ false)
         (λ t. (is_kept_at state.now (a.now.vertex ∷ b.now.vertex ∷ c.now.vertex ∷ []) ≡ true)
@@ -78,9 +76,7 @@ fn shown(state: &State, a: &Point, b: &Point, c: &Point) -> Option<WindowTriangl
 
 // The triangle of three points, where it is kept.
 fn piece(state: &State, a: &Point, b: &Point, c: &Point) -> Option<WindowTriangle>
-    requires a { IsPoint state.now a.now }
-    requires b { IsPoint state.now b.now }
-    requires c { IsPoint state.now c.now }
+    requires { ArePoints state.now a.now b.now c.now }
     ensures { IsPiece state.now ((a.now.vertex ∷ b.now.vertex ∷ c.now.vertex ∷ []) ∷ []) 0 result }
 {
     shown(state, a, b, c)
@@ -162,7 +158,8 @@ fn cut(state: &State, corners: &[Vertex; 3]) -> Pieces
 pub fn pieces(state: &State, mode: u8, corners: &[Vertex; 3]) -> Pieces
     ensures first { IsPiece state.now (corner_pieces state.now mode corners.now) 0 result.first }
     ensures second { IsPiece state.now (corner_pieces state.now mode corners.now) 1 result.second }
-    ensures all { kept_corner_pieces state.now mode corners.now ≡ found_in result }
+    ensures all { kept_pieces state.now mode (vertex_at corners.now 0) (vertex_at corners.now 1)
+        (vertex_at corners.now 2) ≡ found_in result }
 {
     if mode < CUT_MODES {
         return Pieces {

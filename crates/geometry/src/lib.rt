@@ -3,6 +3,7 @@
 //! The definitions are those of `rc_base::specs::Drawing`. Stands on `rc_base`'s types and `fixed_math`. No call takes memory.
 #![tactic(auto)]
 
+mod bringing;
 mod cache;
 mod clipping;
 mod cut_triangle;

@@ -5,7 +5,7 @@ ghost use Rattle.rc_base.specs.Drawing.Cover.{IsInBounds};
 ghost use Rattle.rc_base.specs.Drawing.Pieces.{clip_bound};
 ghost use Rattle.rc_base.specs.Drawing.Window.{clip_of, axis_of, depth_of, window_of, is_in_bounds, is_placed, depth_most};
 ghost use Rattle.fixed_math.specs.Bounds.{AllWithin, four};
-ghost use Rattle.geometry.specs.Placed.{FixesVectors, AreIdentities, IsPlace, are_still, are_small, are_in_front, stands_in_front};
+ghost use Rattle.geometry.specs.Placed.{FixesVectors, AreIdentities, IsClipRatio, IsPlace, are_still, are_small, are_in_front, stands_in_front};
 ghost use Rattle.geometry.specs.Vertices.{vertex_with};
 
 use crate::identities::Identities;
@@ -92,9 +92,7 @@ fn moved(origin: i32, q: i128) -> i128
 
 #[tactic(auto, unfolding(rc_base::specs::Drawing::Window::axis_of))]
 pub(crate) fn axis(origin: i32, size: i32, x: i128, w: i128) -> i128
-    requires positive { pos 0 <ℤ w }
-    requires x { Within (2 ^ 65) x }
-    requires w { Within (2 ^ 65) w }
+    requires { IsClipRatio x w }
     ensures { result ≡ axis_of origin size x w }
 {
     let whole = floor_div(scaled(plus(x, w), size), double(w));
@@ -144,9 +142,7 @@ fn scale_of(w: i128) -> i128
 
 // A depth where the depth range is from 0 to one.
 fn whole_depth(z: i128, w: i128) -> i128
-    requires positive { pos 0 <ℤ w }
-    requires z { Within (2 ^ 65) z }
-    requires w { Within (2 ^ 65) w }
+    requires { IsClipRatio z w }
     ensures { result ≡ depth_of (pos 0) (pos 65536) z w }
 {
     floor_div(deepened(z, w), double(w))
@@ -154,9 +150,7 @@ fn whole_depth(z: i128, w: i128) -> i128
 
 #[tactic(auto, unfolding(rc_base::specs::Drawing::Window::depth_of))]
 fn any_depth(near: i32, far: i32, z: i128, w: i128) -> i128
-    requires positive { pos 0 <ℤ w }
-    requires z { Within (2 ^ 65) z }
-    requires w { Within (2 ^ 65) w }
+    requires { IsClipRatio z w }
     ensures { result ≡ depth_of near far z w }
 {
     let sum = deepened(
@@ -168,9 +162,7 @@ fn any_depth(near: i32, far: i32, z: i128, w: i128) -> i128
 
 // The usual depth range needs smaller numbers.
 pub(crate) fn depth(near: i32, far: i32, z: i128, w: i128) -> i128
-    requires positive { pos 0 <ℤ w }
-    requires z { Within (2 ^ 65) z }
-    requires w { Within (2 ^ 65) w }
+    requires { IsClipRatio z w }
     ensures { result ≡ depth_of near far z w }
 {
     if near == 0 && far == ONE {
@@ -377,17 +369,4 @@ pub(crate) fn stand_of(state: &State, identities: Identities, v: &Vertex) -> Sta
         at: narrow(v, place.x, place.y, place.z),
         front: place.front,
     }
-}
-
-/// The vertex in window coordinates, where it stands before the eye and within their bounds.
-#[inline(always)]
-pub(crate) fn window_vertex(
-    state: &State,
-    identities: Identities,
-    v: &Vertex,
-) -> Option<WindowVertex>
-    requires { AreIdentities state.now identities }
-    ensures { IsPlace state.now v.now result }
-{
-    stand_of(state, identities, v).at
 }

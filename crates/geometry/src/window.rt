@@ -4,9 +4,10 @@ ghost use Rattle.rc_base.specs.Numbers.{Within};
 ghost use Rattle.rc_base.specs.Drawing.Cover.{triangle_area, IsInBounds};
 ghost use Rattle.rc_base.specs.Drawing.Kept.{three, is_front, is_culled, is_shown, oriented, is_kept_at, clip_corners, kept_of, vertex_at};
 ghost use Rattle.rc_base.specs.Drawing.Window.{window_of};
+ghost use Rattle.geometry.specs.Placed.{AreInBounds};
 
 use crate::identities::identities_of;
-use crate::vertex::window_vertex;
+use crate::vertex::stand_of;
 use fixed_math::edge;
 use rc_base::state::{State, Vertex};
 use rc_base::triangle::WindowTriangle;
@@ -33,9 +34,7 @@ fn culled(state: &State, area: i64) -> bool
 
 #[inline(always)]
 fn make(a: &WindowVertex, b: &WindowVertex, c: &WindowVertex, area: i64) -> WindowTriangle
-    requires a { IsInBounds a.now }
-    requires b { IsInBounds b.now }
-    requires c { IsInBounds c.now }
+    requires corners { AreInBounds a.now b.now c.now }
     requires area { area ≡ triangle_area (three a.now b.now c.now) }
     requires positive { pos 0 <ℤ area }
     ensures { result.v ≡ three a.now b.now c.now }
@@ -48,9 +47,7 @@ fn make(a: &WindowVertex, b: &WindowVertex, c: &WindowVertex, area: i64) -> Wind
 
 #[inline(always)]
 fn signed_area(a: &WindowVertex, b: &WindowVertex, c: &WindowVertex) -> i64
-    requires a { IsInBounds a.now }
-    requires b { IsInBounds b.now }
-    requires c { IsInBounds c.now }
+    requires { AreInBounds a.now b.now c.now }
     ensures value { result ≡ triangle_area (three a.now b.now c.now) }
     ensures small { Within (2 ^ 44) result }
 {
@@ -73,9 +70,7 @@ pub(crate) fn is_dropped(
     b: &WindowVertex,
     c: &WindowVertex,
 ) -> bool
-    requires a { IsInBounds a.now }
-    requires b { IsInBounds b.now }
-    requires c { IsInBounds c.now }
+    requires { AreInBounds a.now b.now c.now }
     ensures { result ≡ not (is_shown state.now (triangle_area (three a.now b.now c.now))) }
 {
     let area = signed_area(a, b, c);
@@ -95,9 +90,7 @@ fn chosen<'a>(first: bool, a: &'a WindowVertex, b: &'a WindowVertex) -> &'a Wind
 /// The triangle of three corners that has an area, counterclockwise.
 #[inline(always)]
 pub(crate) fn turned(a: &WindowVertex, b: &WindowVertex, c: &WindowVertex) -> WindowTriangle
-    requires a { IsInBounds a.now }
-    requires b { IsInBounds b.now }
-    requires c { IsInBounds c.now }
+    requires corners { AreInBounds a.now b.now c.now }
     requires apart { triangle_area (three a.now b.now c.now) ≡ pos 0 → ⊥ }
     ensures { result.v ≡ oriented a.now b.now c.now }
 {
@@ -119,9 +112,7 @@ pub(crate) fn assemble(
     b: WindowVertex,
     c: WindowVertex,
 ) -> Option<WindowTriangle>
-    requires a { IsInBounds a }
-    requires b { IsInBounds b }
-    requires c { IsInBounds c }
+    requires { AreInBounds a b c }
     ensures { MatchOption result
         (is_shown state.now (triangle_area (three a b c)) ≡ false)
         (λ t. (is_shown state.now (triangle_area (three a b c)) ≡ true) × (t.v ≡ oriented a b c)) }
@@ -141,9 +132,9 @@ fn kept(state: &State, corners: &[Vertex; 3]) -> Option<WindowTriangle>
         × (t.v ≡ oriented (window_of state.now (vertex_at corners.now 0)) (window_of state.now (vertex_at corners.now 1)) (window_of state.now (vertex_at corners.now 2)))) }
 {
     let identities = identities_of(state);
-    let a = window_vertex(state, identities, &corners[0])?;
-    let b = window_vertex(state, identities, &corners[1])?;
-    let c = window_vertex(state, identities, &corners[2])?;
+    let a = stand_of(state, identities, &corners[0]).at?;
+    let b = stand_of(state, identities, &corners[1]).at?;
+    let c = stand_of(state, identities, &corners[2]).at?;
     assemble(state, a, b, c)
 }
 

@@ -22,3 +22,11 @@ returns c =
     let a : WindowVertex = vertex_with carried (to_z w128 (of_z w128 c.axis-x.result)) (to_z w128 (of_z w128 c.axis-y.result)) (to_z w128 (of_z w128 c.depth-z.result)) in
     let q : a ≡ window_at s v = grind (arith, to_z-of_z) in
     place_at s v a c.narrow.result h q c.narrow.ensures
+
+pub depth-z-requires : goal.depth-z-requires
+depth-z-requires c =
+    let f : FitsSigned w64 c.args.c.now.w = search rules in
+    let g : FitsSigned w128 c.wide-w.result = record { sfits = c.wide-w.type_inv } in
+    let h : FitsSigned w128 c.wide-3.result = record { sfits = c.wide-3.type_inv } in
+    let e = c.wide-w.ensures.value in
+    rw (to_z-of_z g, to_z-of_z h) (record { positive = omega (arith, ints, e); coordinate = c.wide-3.ensures.small; divisor = c.wide-w.ensures.small })

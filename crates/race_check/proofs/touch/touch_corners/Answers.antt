@@ -56,7 +56,7 @@ returns-in-No-clause-touches c = record {
       let part = c.args.part in
       let g = c.pieces-given.result in
       let e = c.vertices_at-vertices.ensures in
-      let kept = pieces_kept s c.uncut_near.new.self.state.now block t c.vertices_at-vertices.result c.as_slice.result.now (found g.first ++ found g.second) c.uncut_near.ensures.state c.as_slice.ensures
+      let kept = pieces_kept s c.uncut_near.new.self.state.now block t c.vertices_at-vertices.result c.as_slice.result.now (found g.first ++ found g.second) c.uncut_near.ensures.cache.state c.as_slice.ensures
       e.first e.second e.third c.pieces-given.ensures.all in
       touch_then (triangles_have (found g.first) part) (triangles_have (found g.second) part) (triangles_have (kept_corners_of s block t) part) c.args.visit.now c.args.pixels.now.cells.items
       c.touch_found-first.new.pixels.cells.items c.touch_found-in-No.new.pixels.cells.items c.args.seen c.touch_found-first.result c.touch_found-in-No.result c.touch_found-first.ensures.touched
