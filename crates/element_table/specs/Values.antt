@@ -17,11 +17,6 @@ use Rattle.element_table.specs.Kinds.{has_kind, kind_of}
 abbrev pub has_sides : Decl → ℕ → Bool
 has_sides d name = nat_lt 0 (slice_index (shared_sides d.shared name) 0) && nat_lt 0 (slice_index (shared_sides d.shared name) 1)
 
--- the sides of a declared shared texture; of a name that isn't declared, 0
-pub record IsSidesOf (d : Decl) (name : ℕ) (sides : List ℕ) : Type 0 where
-  pub width : slice_index sides 0 ≡ slice_index (shared_sides d.shared name) 0
-  pub height : slice_index sides 1 ≡ slice_index (shared_sides d.shared name) 1
-
 -- a texture that can be bound: a private one, or a declared one with texels
 abbrev pub is_binding : Decl → ℕ → ℕ → Bool
 is_binding d kind name =

@@ -1,15 +1,13 @@
 //! The nine groups of elements: five of scalar elements, and four of sixteen images each.
-ghost use Rattle.std.specs.Prelude.{◌≡◌, ◌<◌, ◌≤◌, ◌+◌, length, slice_index};
+ghost use Rattle.std.specs.Prelude.{◌≡◌, ◌<◌, ◌≤◌, length};
 ghost use Rattle.rc_base.specs.Contexts.Elements.{element_count, group_sizes, scalar_count};
-ghost use Rattle.element_table.specs.Groups.{group_start};
+ghost use Rattle.element_table.specs.Groups.{IsGroupOf, group_start};
 
 use crate::kind::{ELEMENT_COUNT, SCALAR_COUNT};
 
 fn scalar_group(element: u8) -> u8
     requires { element < scalar_count }
-    ensures group { result < length group_sizes }
-    ensures low { group_start result ≤ element }
-    ensures high { element < group_start result + slice_index group_sizes result }
+    ensures { IsGroupOf element result }
 {
     match element {
         0..4 => 0,
@@ -23,9 +21,7 @@ fn scalar_group(element: u8) -> u8
 fn image_group(element: u8) -> u8
     requires low { scalar_count ≤ element }
     requires high { element < element_count }
-    ensures group { result < length group_sizes }
-    ensures low { group_start result ≤ element }
-    ensures high { element < group_start result + slice_index group_sizes result }
+    ensures { IsGroupOf element result }
 {
     match element - SCALAR_COUNT {
         0..16 => 5,
@@ -38,9 +34,7 @@ fn image_group(element: u8) -> u8
 /// The group, from 0, in which an element stands.
 pub fn group_of(element: u8) -> u8
     requires { element < element_count }
-    ensures group { result < length group_sizes }
-    ensures low { group_start result ≤ element }
-    ensures high { element < group_start result + slice_index group_sizes result }
+    ensures { IsGroupOf element result }
 {
     if element < SCALAR_COUNT {
         scalar_group(element)

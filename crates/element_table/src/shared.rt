@@ -1,14 +1,16 @@
 //! The declared sides of shared textures.
 ghost use Rattle.std.specs.Prelude.{◌≡◌, slice_index};
+ghost use Rattle.rc_base.specs.Contexts.Context.{shared_sides};
 ghost use Rattle.rc_base.specs.Contexts.Faults.{lies_inside};
-ghost use Rattle.element_table.specs.Values.{IsSidesOf, has_sides};
+ghost use Rattle.element_table.specs.Values.{has_sides};
 
 use rc_base::command::Part;
 use rc_base::scene::Decl;
 
 /// The sides of a shared texture by its name, width and height, and sides of 0 where there is none of that name.
 pub fn sides_of(decl: &Decl, name: u8) -> [u16; 2]
-    ensures { IsSidesOf decl.now name result }
+    ensures width { slice_index result 0 ≡ slice_index (shared_sides decl.now.shared name) 0 }
+    ensures height { slice_index result 1 ≡ slice_index (shared_sides decl.now.shared name) 1 }
 {
     if name == 0 {
         return [0, 0];

@@ -24,29 +24,14 @@ fn is_power(d: i64, places: u32) -> bool
     places < 63 && 1_i64 << places == d
 }
 
-// By a power of two: a shift copies the sign.
-fn shifted(n: i64, places: u32) -> i64
-    requires { places < 63 }
-    ensures { result ≡ floor_quotient n (pos (2 ^ places)) }
-{
-    n >> places
-}
-
-fn long_shifted(n: i128, places: u32) -> i128
-    requires { places < 63 }
-    ensures { result ≡ floor_quotient n (pos (2 ^ places)) }
-{
-    n >> places
-}
-
-// A division takes ten times as long as a shift, and most divisors of places and depths are powers of two.
+// A division takes ten times as long as a shift, which copies the sign, and most divisors of places and depths are powers of two.
 fn short_quotient(n: i64, d: i64) -> i64
     requires { pos 0 <ℤ d }
     ensures { result ≡ floor_quotient n d }
 {
     let places = d.trailing_zeros();
     if is_power(d, places) {
-        shifted(n, places)
+        n >> places
     } else {
         n.div_euclid(d)
     }
@@ -58,7 +43,7 @@ fn long_quotient(n: i128, d: i64) -> i128
 {
     let places = d.trailing_zeros();
     if is_power(d, places) {
-        long_shifted(n, places)
+        n >> places
     } else {
         n.div_euclid(i128::from(d))
     }

@@ -60,21 +60,9 @@ fn greatest_row(m: &Mat4, r: usize, b: &[Interval; 4]) -> i128
     row_sum_floor(x, y, z, w)
 }
 
-#[tactic(auto, unfolding(rc_base::specs::Intervals::row_over))]
-fn ends(m: &Mat4, r: usize, b: &[Interval; 4]) -> Interval
-    requires row { r < 4 }
-    requires bounded { OfEach (AreEndsWithin (2 ^ 64)) b.now }
-    ensures value { result ≡ row_over m.now.m r b.now }
-    ensures small { (n : ℕ) → OfEach (AreEndsWithin n) b.now → AreEndsWithin (2 ^ 17 * n) result }
-{
-    Interval {
-        lo: least_row(m, r, b),
-        hi: greatest_row(m, r, b),
-    }
-}
-
 /// Row `r` of the matrix times a vector of which each entry lies in an interval: the floors of the least and of the greatest sum of products,
 /// divided by 65536. It holds the row's product with each such vector.
+#[tactic(auto, unfolding(rc_base::specs::Intervals::row_over))]
 pub fn row_over(m: &Mat4, r: usize, b: &[Interval; 4]) -> Interval
     requires row { r < 4 }
     requires bounded { OfEach (AreEndsWithin (2 ^ 64)) b.now }
@@ -84,5 +72,8 @@ pub fn row_over(m: &Mat4, r: usize, b: &[Interval; 4]) -> Interval
     ensures ordered { IsOrdered result }
     ensures small { (n : ℕ) → OfEach (AreEndsWithin n) b.now → AreEndsWithin (2 ^ 17 * n) result }
 {
-    ends(m, r, b)
+    Interval {
+        lo: least_row(m, r, b),
+        hi: greatest_row(m, r, b),
+    }
 }
