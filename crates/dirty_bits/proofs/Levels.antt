@@ -11,7 +11,7 @@ use Rattle.std.proofs.lemmas.Nat.Bits.{bit_at_ones, bit_at-zero, bit_at_clear_sa
 use Rattle.rc_base.specs.Contexts.Elements.{element_count, group_sizes}
 use Rattle.plain_lemmas.proofs.Ranges.{any_in_range, any_same_in_range}
 use Rattle.dirty_bits.specs.Bits.{is_dirty, is_group_dirty, is_any_dirty, IsHierarchy}
-use Rattle.element_table.specs.Groups.{group_start}
+use Rattle.element_table.specs.Groups.{IsGroupOf, group_start}
 use Rattle.dirty_bits.proofs.Ranges.{none_any, fewer_any, parts_together}
 
 -- ---- words
@@ -54,14 +54,8 @@ before (n ∷ ns) (suc g) (suc h) lt room =
     let more = sum_by-cons (λ x. x) n (take h ns) in
     omega (arith, rest, some, more)
 
--- an element lies in a group
-pub record IsInGroup (e g : ℕ) : Type 0 where
-  pub group : g < length group_sizes
-  pub low : group_start g ≤ e
-  pub high : e < group_start g + slice_index group_sizes g
-
--- it lies in one alone
-one_group : (e g h : ℕ) → IsInGroup e g → IsInGroup e h → g ≡ h
+-- an element lies in one group alone
+one_group : (e g h : ℕ) → IsGroupOf e g → IsGroupOf e h → g ≡ h
 one_group e g h a b = elim (cases_order g h) [
   | inl same ↦ same
   | inr (inl less) ↦ (let o = before group_sizes g h less a.group in absurd (omega (arith, o, a.high, b.low)))
@@ -74,7 +68,7 @@ next_start g lt = sum_by_more (λ x. x) group_sizes g 0 lt
 pub group_within : (g : ℕ) → g < length group_sizes → group_start g + slice_index group_sizes g ≤ element_count
 group_within g lt = before group_sizes g (length group_sizes) lt lt
 
-within : (e g : ℕ) → IsInGroup e g → e < element_count
+within : (e g : ℕ) → IsGroupOf e g → e < element_count
 within e g h = let o = group_within g h.group in omega (arith, o, h.high)
 
 -- any element is dirty where an element of one of the groups is
@@ -104,7 +98,7 @@ marked_is words e k s lt low = set_is words e (2 ^ 32 - 1) k s lt ∙ by (k == e
     by false = refl
 
 pub marked_hierarchy : (elements groups : List ℕ) (top e g : ℕ) → length elements ≡ element_count → length groups ≡ length group_sizes
-    → IsInGroup e g → IsHierarchy elements groups top
+    → IsGroupOf e g → IsHierarchy elements groups top
     → IsHierarchy (slice_set elements e (2 ^ 32 - 1)) (slice_set groups g (2 ^ 32 - 1)) (2 ^ 32 - 1)
 marked_hierarchy elements groups top e g count nine is h = record {
   of_groups = λ k s lt low. marked_is groups g k s (omega (arith, nine, is.group)) low ∙ by k s lt low (k == g) refl;
@@ -189,7 +183,7 @@ module _ (old new : List ℕ) (e server : ℕ) (c : IsCleared old new e server) 
           ∙ any_same_in_range (λ k. is_dirty old k s) (λ k. is_dirty new k s) a n
           (λ k from to. sym (c.bits k s low ∙ ap (λ b. is_dirty old k s && not (k == e && b)) other ∙ ap (λ b. is_dirty old k s && not b) (and-false (k == e)) ∙ and-true (is_dirty old k s)))
 
-  pub cleared_groups : (groups : List ℕ) (top g word : ℕ) (stays : Bool) → server < 32 → length groups ≡ length group_sizes → IsInGroup e g
+  pub cleared_groups : (groups : List ℕ) (top g word : ℕ) (stays : Bool) → server < 32 → length groups ≡ length group_sizes → IsGroupOf e g
       → IsHierarchy old groups top → IsLowered (slice_index groups g) word server stays → stays ≡ is_group_dirty new g server
       → (k s : ℕ) → k < length group_sizes → s < 32 → is_dirty (slice_set groups g word) k s ≡ is_group_dirty new k s
   cleared_groups groups top g word stays lt nine is h l still k s room low =
@@ -214,7 +208,7 @@ module _ (old new : List ℕ) (e server : ℕ) (c : IsCleared old new e server) 
                   let j : i ≡ e = eqb-true i e is_e in
                   absurd (eqb-false k g other (one_group e k g (record { group = room; low = omega (arith, from, j); high = omega (arith, to, j) }) is))
 
-  pub cleared_hierarchy : (groups : List ℕ) (top g word last : ℕ) (stays more : Bool) → server < 32 → length groups ≡ length group_sizes → IsInGroup e g
+  pub cleared_hierarchy : (groups : List ℕ) (top g word last : ℕ) (stays more : Bool) → server < 32 → length groups ≡ length group_sizes → IsGroupOf e g
       → IsHierarchy old groups top → IsLowered (slice_index groups g) word server stays → stays ≡ is_group_dirty new g server
       → IsLowered top last server more → more ≡ list_any (λ k. is_dirty (slice_set groups g word) k server) (range_with_len 0 (length group_sizes))
       → IsHierarchy new (slice_set groups g word) last
