@@ -11,6 +11,7 @@ mod crew;
 mod crowd;
 mod foreground;
 mod owed;
+mod patience;
 mod ready;
 mod row;
 mod run;

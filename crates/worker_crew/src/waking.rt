@@ -3,27 +3,24 @@
 //! No wake-up is lost. Who is about to sleep says so at its place, and then tries its step once more; who gave something, an item or room for one,
 //! looks at the place of its peer behind that. All of it is in one order, so either the giver finds the peer asleep, or the peer's second try finds what
 //! was given. A giver may look later, when it has given some more; it looks before it waits itself, before it ends, and after some steps in any case.
-ghost use Rattle.std.specs.Prelude.{◌≡◌, ◌<◌, ◌+◌, ◌^◌};
+ghost use Rattle.std.specs.Prelude.{◌<◌, ◌+◌, ◌^◌};
 ghost use Rattle.worker_crew.specs.Owing.{IsNothing, IsGift, IsSettled};
 ghost use Rattle.worker_crew.specs.Places.{place_in};
 
 use crate::owed::{Owed, PLACES};
+use crate::patience::Patience;
 use crate::row::Row;
 use crate::seat::{Awaited, Seat, nap};
 use crate::task::Turned;
-use crate::waits::{Budget, Next, next_for};
+use crate::waits::Next;
 use crate::worker::{Peer, Worker};
 use rc_base::gate::Actor;
-use std::hint;
 use std::sync::Wait;
 
 // After so many moved steps all to whom something was given are rung.
 const ROUND: u64 = 32;
 
-// Behind a turn that moved something it gives its processor away so often at most before it sleeps.
-const YIELDS: u32 = 8;
-
-/// How a thread waits, and whom it has to wake.
+/// A thread's place, whom it has to wake, and how it waits.
 #[derive(Drop)]
 pub(crate) struct Waking<'s> {
     row: Row<'s>,
@@ -31,21 +28,7 @@ pub(crate) struct Waking<'s> {
     acting: usize,
     owed: Owed,
     moved: u64,
-    budget: Budget,
-    looked: bool,
-    yields: u32,
-    announced: Awaited,
-}
-
-// Looks at a worker's lanes so often. Whether it may move.
-fn looks_out<W: Worker>(worker: &W, on: Option<Peer>, looks: u32) -> bool {
-    for _ in 0..looks {
-        if worker.may_move(on) {
-            return true;
-        }
-        hint::spin_loop();
-    }
-    false
+    patience: Patience,
 }
 
 // Does a part of what is left for a worker to do that nobody waits for, where nobody is owed a ring. Whether there was one.
@@ -68,10 +51,7 @@ impl<'s> Waking<'s> {
             acting: own,
             owed: Owed::new(),
             moved: 0,
-            budget: Budget::new(),
-            looked: false,
-            yields: YIELDS,
-            announced: Awaited::nobody(),
+            patience: Patience::new(),
         }
     }
 
@@ -110,25 +90,18 @@ impl<'s> Waking<'s> {
         }
     }
 
-    // Rings all to whom something was given.
-    fn ring_owed(&mut self)
-        ensures { IsNothing self.new.owed.given }
-    {
-        for place in 0..PLACES {
-            if self.owed.is_owed(place) {
-                self.ring(place);
-            }
-        }
-        self.owed.close();
-    }
-
     /// Rings all to whom something was given since they were last rung.
     pub(crate) fn settle(&mut self)
         ensures { IsNothing self.new.owed.given }
     {
         self.moved = 0;
         if self.owed.is_any() {
-            self.ring_owed();
+            for place in 0..PLACES {
+                if self.owed.is_owed(place) {
+                    self.ring(place);
+                }
+            }
+            self.owed.close();
         }
     }
 
@@ -147,79 +120,6 @@ impl<'s> Waking<'s> {
         self.row.ring_waiting(self.own);
     }
 
-    // Looks out for what it waits for, a few looks at a time, as long as no more threads are awake than there are processors. Whether the worker may move;
-    // it learns whether the looks were of use, unless they were cut off.
-    fn look<W: Worker>(&mut self, worker: &W, on: Option<Peer>, looks: u32) -> bool
-        ensures { self.new.owed ≡ self.old.owed }
-    {
-        self.looked = true;
-        for _ in 0..looks / 16 {
-            if self.row.is_crowded() {
-                return false;
-            }
-            if looks_out(worker, on, 16) {
-                self.budget.double();
-                return true;
-            }
-        }
-        self.budget.quarter();
-        false
-    }
-
-    // Says for whom it is about to sleep, or that it stays awake.
-    fn announce(&mut self, seat: &Seat, whom: Awaited)
-        ensures owed { self.new.owed ≡ self.old.owed }
-    {
-        seat.announce(self.announced, whom, self.row.crowd());
-        self.announced = whom;
-    }
-
-    // Whether it has announced a sleep.
-    fn has_announced(&self) -> bool {
-        self.announced != Awaited::nobody()
-    }
-
-    // How many looks it may have now: none where it has looked since a turn moved something, or has announced a sleep.
-    fn looks(&mut self, is_crowded: bool) -> u32
-        ensures { self.new.owed ≡ self.old.owed }
-    {
-        if self.looked || is_crowded || self.has_announced() {
-            return 0;
-        }
-        self.budget.take()
-    }
-
-    // What comes next, where the thread waits for these.
-    fn next_for(&mut self, whom: Awaited) -> Next
-        ensures { self.new.owed ≡ self.old.owed }
-    {
-        let is_crowded = self.row.is_crowded();
-        let looks = self.looks(is_crowded);
-        let yields = if self.has_announced() { 0 } else { self.yields };
-        next_for(self.announced == whom, looks, yields, is_crowded)
-    }
-
-    // Gives its processor away, or announces a sleep where that is dear.
-    fn give_way(&mut self, seat: &Seat, whom: Awaited)
-        ensures { self.new.owed ≡ self.old.owed }
-    {
-        self.yields = self.yields.saturating_sub(1);
-        if !self.row.watch().give_way() {
-            self.announce(seat, whom);
-        }
-    }
-
-    // Sleeps for whom it announced.
-    fn sleep<R: Wait>(&mut self, rt: &R, seat: &Seat)
-        requires { IsNothing self.old.owed.given }
-        ensures { self.new.owed ≡ self.old.owed }
-    {
-        seat.sleep(rt, self.row.crowd(), &self.owed);
-        self.announced = Awaited::nobody();
-        self.looked = false;
-        self.yields = YIELDS;
-    }
-
     // Waits at its place: it looks out for what the worker waits for, as often as that was of use, and then sleeps until it is woken.
     fn wait_at<W: Worker, R: Wait>(&mut self, rt: &R, seat: &Seat, on: Option<Peer>, worker: &W)
         requires { IsNothing self.old.owed.given }
@@ -228,43 +128,19 @@ impl<'s> Waking<'s> {
             Some(peer) => Awaited::of(self.row.place_of(peer)),
             None => Awaited::anybody(),
         };
-        match self.next_for(whom) {
+        match self.patience.next_for(&self.row, whom) {
             Next::Look(looks) => {
-                let _found = self.look(worker, on, looks);
+                let _found = self.patience.look(&self.row, worker, on, looks);
             }
-            Next::Yield => self.give_way(seat, whom),
-            Next::Announce => self.announce(seat, whom),
-            Next::Sleep => self.sleep(rt, seat),
-        }
-    }
-
-    // Waits at its place for anybody, without a look.
-    fn rest_at<R: Wait>(&mut self, rt: &R, seat: &Seat)
-        requires { IsNothing self.old.owed.given }
-    {
-        if self.announced == Awaited::anybody() {
-            self.sleep(rt, seat);
-        } else {
-            self.announce(seat, Awaited::anybody());
-        }
-    }
-
-    // The thread is awake, and a step of it moved.
-    fn stay_awake(&mut self)
-        ensures { self.new.owed ≡ self.old.owed }
-    {
-        self.looked = false;
-        self.yields = YIELDS;
-        if self.announced != Awaited::nobody() {
-            if let Some(seat) = self.row.seat(self.own) {
-                self.announce(seat, Awaited::nobody());
-            }
+            Next::Yield => self.patience.give_way(&self.row, seat, whom),
+            Next::Announce => self.patience.announce(&self.row, seat, whom),
+            Next::Sleep => self.patience.sleep(rt, &self.row, seat, &self.owed),
         }
     }
 
     /// Goes on behind a turn that moved something.
     pub(crate) fn go_on(&mut self) {
-        self.stay_awake();
+        self.patience.stay_awake(&self.row, self.own);
         self.moved = self.moved.saturating_add(1);
         if self.moved >= ROUND {
             self.settle();
@@ -306,7 +182,7 @@ impl<'s> Waking<'s> {
     pub(crate) fn rest<R: Wait>(&mut self, rt: &R) {
         self.settle();
         match self.row.seat(self.own) {
-            Some(seat) => self.rest_at(rt, seat),
+            Some(seat) => self.patience.rest(rt, &self.row, seat, &self.owed),
             None => nap(rt, &self.owed),
         }
     }
