@@ -2,7 +2,7 @@
 use Rattle.std.specs.Prelude.{◌≡◌, ℕ, suc, ◌+◌, ◌-◌, ◌<◌, ◌≤◌, ◌==◌, ◌&&◌, nat_lt, nat_le, bytes_eq, Bool, true, false, cond, List, [], ◌∷◌, take, drop, map, length, slice_get, slice_index, slice_set, Option, Some, None, option_map, option_to_list, ◌++◌}
 use Rattle.rc_base.specs.Orders.Journal.{is_member, sync_state_after}
 use Rattle.rc_base.specs.Orders.Order.{PlacedEntry, entries_from, givers, takers}
-use Rattle.rc_base.specs.Orders.Sync.{client_count, ops_of, units_of}
+use Rattle.rc_base.specs.Orders.Sync.{IsWellFormed, client_count, ops_of, units_of}
 use Rattle.rc_base.specs.declared.sync.Entry.{Entry}
 use Rattle.rc_base.specs.declared.sync.Entry.TheVariants.{Meet, Swap, Give, Take}
 use Rattle.rc_base.specs.declared.sync.Name.{Name}
@@ -116,6 +116,16 @@ pub record IsWalk (syncs : SyncLists) (journal : List Entry) (order : List Name)
 abbrev pub IsWalkOf : SyncLists → List Entry → List Name → Walk → Type 0
 IsWalkOf syncs journal order walk = IsWalk syncs journal order walk.read walk.used walk.spots
 
+-- a walk can go along journals of these lists: they are well formed, and of at most eight clients
+pub record CanBeWalked (syncs : SyncLists) : Type 0 where
+  pub clients : client_count syncs ≤ 8
+  pub lists : IsWellFormed syncs
+
+-- a walk goes along such lists
+pub record WalksAlong (syncs : SyncLists) (journal : List Entry) (order : List Name) (walk : Walk) : Type 0 where
+  pub lists : CanBeWalked syncs
+  pub reads : IsWalkOf syncs journal order walk
+
 -- each unit of the semaphore beyond the first ones is given before it is taken
 abbrev pub hands_over : SyncLists → List Entry → List Name → ℕ → Bool
 hands_over syncs journal order semaphore =
@@ -125,6 +135,11 @@ hands_over syncs journal order semaphore =
 abbrev pub Finds : SyncLists → List Entry → List Name → Bool → ℕ → Walk → Option ℕ → Walk → Type 0
 Finds syncs journal order gives semaphore before found after =
     unit_spots syncs journal order gives semaphore before.read ≡ option_to_list found ++ unit_spots syncs journal order gives semaphore after.read
+
+-- and it still is a walk along the journal
+pub record WalksOnTo (syncs : SyncLists) (journal : List Entry) (order : List Name) (gives : Bool) (semaphore : ℕ) (before : Walk) (found : Option ℕ) (after : Walk) : Type 0 where
+  pub walk : IsWalkOf syncs journal order after
+  pub spot : Finds syncs journal order gives semaphore before found after
 
 -- the walk has passed the next names that take, so many of them
 abbrev pub Passes : SyncLists → List Entry → List Name → ℕ → ℕ → Walk → Walk → Type 0

@@ -43,6 +43,11 @@ HaveUsedOneMore are before after =
 abbrev pub AreCounts : List Name → List ℕ → Type 0
 AreCounts order counts = (client : ℕ) → names_in client order ≡ slice_index counts client
 
+-- the same, and the lists are of at most eight clients
+pub record AreCountsFor (syncs : SyncLists) (order : List Name) (counts : List ℕ) : Type 0 where
+  pub clients : client_count syncs ≤ 8
+  pub names : AreCounts order counts
+
 -- so many entries of a journal are read, and this order is made: the operations that each client has used, and the names of each in the order
 pub record IsOrderMade (syncs : SyncLists) (journal : List Entry) (read : ℕ) (used counts : List ℕ) (order : List Name) : Type 0 where
   pub within : read ≤ length journal

@@ -3,7 +3,7 @@ ghost use Rattle.std.specs.Prelude.{◌≡◌, ℕ, ◌+◌, ◌-◌, ◌<◌, �
 ghost use Rattle.rc_base.specs.Orders.Journal.{is_member};
 ghost use Rattle.rc_base.specs.Orders.Order.{entries_of};
 ghost use Rattle.rc_base.specs.Orders.Sync.{IsWellFormed, client_count};
-ghost use Rattle.order_model.specs.Checked.{all_part, parts, place_by, spot_before, spot_behind};
+ghost use Rattle.order_model.specs.Checked.{CanBeWalked, all_part, parts, place_by, spot_before, spot_behind};
 
 use crate::spots::first_at;
 use crate::walk::{clients_of, place_of};
@@ -91,8 +91,8 @@ fn all_part(order: &[Name], syncs: &SyncLists, journal: &[Entry], a: u8, b: u8) 
 
 /// Each entry parts the names of a client and any other.
 fn all_part_from(order: &[Name], syncs: &SyncLists, journal: &[Entry], a: u8) -> bool
-    requires clients { (a < 8) × (client_count syncs.now ≤ 8) }
-    requires lists { IsWellFormed syncs.now }
+    requires client { a < 8 }
+    requires syncs { CanBeWalked syncs.now }
     ensures { IsTrue result ↔ ((b : ℕ) → b < client_count syncs.now
         → all_part order.now a b (entries_of syncs.now journal.now) ≡ true) }
 {
@@ -106,8 +106,7 @@ fn all_part_from(order: &[Name], syncs: &SyncLists, journal: &[Entry], a: u8) ->
 
 /// Each entry parts the names of its members.
 pub fn entries_part(order: &[Name], syncs: &SyncLists, journal: &[Entry]) -> bool
-    requires clients { client_count syncs.now ≤ 8 }
-    requires lists { IsWellFormed syncs.now }
+    requires { CanBeWalked syncs.now }
     ensures { IsTrue result ↔ ((a b : ℕ) → a < client_count syncs.now → b < client_count syncs.now
         → all_part order.now a b (entries_of syncs.now journal.now) ≡ true) }
 {

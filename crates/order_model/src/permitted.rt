@@ -3,7 +3,7 @@ ghost use Rattle.std.specs.Prelude.{◌≡◌, ◌≤◌, ◌↔◌, ℕ, IsTrue
 ghost use Rattle.rc_base.specs.Orders.Journal.{reach_of};
 ghost use Rattle.rc_base.specs.Orders.Order.{IsPermitted};
 ghost use Rattle.rc_base.specs.Orders.Sync.{IsWellFormed, client_count};
-ghost use Rattle.order_model.specs.Checked.{runs_to};
+ghost use Rattle.order_model.specs.Checked.{CanBeWalked, runs_to};
 
 use crate::parted::entries_part;
 use crate::units::all_hand_over;
@@ -40,8 +40,7 @@ fn runs_to(order: &[Name], ends: &[u32; 8]) -> bool
 
 /// The parts of a permitted order.
 fn permits(order: &[Name], journal: &[Entry], syncs: &SyncLists) -> bool
-    requires clients { client_count syncs.now ≤ 8 }
-    requires lists { IsWellFormed syncs.now }
+    requires { CanBeWalked syncs.now }
     ensures { IsTrue result ↔ IsPermitted syncs.now journal.now order.now }
 {
     let ends = reaches(syncs, journal);

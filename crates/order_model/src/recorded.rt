@@ -3,8 +3,8 @@ ghost use Rattle.std.specs.Prelude.{◌≡◌, ◌+◌, ◌-◌, ◌<◌, ◌≤
 ghost use Rattle.rc_base.specs.Orders.Journal.{is_member, reach_of, start};
 ghost use Rattle.rc_base.specs.Orders.Order.{added, all_added, names_from};
 ghost use Rattle.rc_base.specs.Orders.Sync.{client_count};
-ghost use Rattle.order_model.specs.Counted.{AreCounts, HasPerformed, IsRecording, place_or_end};
-ghost use Rattle.order_model.specs.Log.{logged, recorded_order};
+ghost use Rattle.order_model.specs.Counted.{AreCounts, AreCountsFor, HasPerformed, IsRecording, place_or_end};
+ghost use Rattle.order_model.specs.Log.{logged};
 ghost use Rattle.order_model.specs.Report.{tile_order};
 
 use crate::record::{Log, LogEntry, Record};
@@ -66,8 +66,7 @@ fn add_members(
     used: &[usize; 8],
     entry: Entry,
 ) -> Result<(), OutOfMemory>
-    requires clients { client_count syncs.now ≤ 8 }
-    requires counts { AreCounts order.old counts.old }
+    requires { AreCountsFor syncs.now order.old counts.old }
     ensures order { OnOk result (order.new ≡ all_added (is_member (client_count syncs.now) entry)
         (λ c. place_or_end syncs.now c (slice_index used.now c) + 1) (client_count syncs.now)
         order.old) }
@@ -90,8 +89,7 @@ fn add_rest(
     syncs: &SyncLists,
     journal: &[Entry],
 ) -> Result<(), OutOfMemory>
-    requires clients { client_count syncs.now ≤ 8 }
-    requires counts { AreCounts order.old counts.old }
+    requires { AreCountsFor syncs.now order.old counts.old }
     ensures { OnOk result (order.new ≡ all_added (λ c. true) (reach_of syncs.now journal.now)
         (client_count syncs.now) order.old) }
 {
@@ -175,21 +173,6 @@ fn replay(
     Ok(recording)
 }
 
-/// The order that a log records.
-fn recorded_order(
-    alloc: Global,
-    syncs: &SyncLists,
-    journal: &[Entry],
-    log: &[LogEntry],
-) -> Result<Order, OutOfMemory>
-    requires { client_count syncs.now ≤ 8 }
-    ensures { IfOk result (λ order. order ≡ recorded_order syncs.now journal.now log.now) }
-{
-    let mut recording = replay(alloc, syncs, journal, log)?;
-    add_rest(&mut recording.order, &mut recording.counts, syncs, journal)?;
-    Ok(recording.order)
-}
-
 /// The log of a tile. A tile that doesn't exist did nothing.
 fn log_of(logs: &[Log], tile: u8) -> &[LogEntry]
     ensures { result.now ≡ slice_index_or logs.now tile [] }
@@ -207,10 +190,9 @@ pub fn tile_order(alloc: Global, kept: &Record, tile: u8) -> Result<Order, OutOf
     requires { client_count kept.now.syncs ≤ 8 }
     ensures { IfOk result (λ order. order ≡ tile_order kept.now tile) }
 {
-    recorded_order(
-        alloc,
-        &kept.syncs,
-        kept.journal.as_slice(),
-        log_of(kept.logs.as_slice(), tile),
-    )
+    let syncs = &kept.syncs;
+    let journal = kept.journal.as_slice();
+    let mut recording = replay(alloc, syncs, journal, log_of(kept.logs.as_slice(), tile))?;
+    add_rest(&mut recording.order, &mut recording.counts, syncs, journal)?;
+    Ok(recording.order)
 }

@@ -1,7 +1,7 @@
 //! Where names stand in an order, found along a journal.
 ghost use Rattle.std.specs.Prelude.{◌≡◌, ◌+◌, ◌<◌, ◌≤◌, [], length, replicate, IsSome, None};
-ghost use Rattle.rc_base.specs.Orders.Sync.{IsWellFormed, client_count};
-ghost use Rattle.order_model.specs.Checked.{AreNotBehind, Finds, IsWalkOf, first_at, is_from, next_spot, unit_client, unit_spots};
+ghost use Rattle.rc_base.specs.Orders.Sync.{client_count};
+ghost use Rattle.order_model.specs.Checked.{AreNotBehind, WalksOnTo, WalksAlong, first_at, is_from, next_spot, unit_client, unit_spots};
 
 use crate::walk::{advance, clients_of, place_of};
 use rc_base::sync::{Entry, Name, SyncLists};
@@ -49,14 +49,20 @@ pub fn nothing_read() -> Walk
     }
 }
 
-/// Where the name of a client's next operation stands, if it has one left.
-fn next_spot(order: &[Name], syncs: &SyncLists, walk: &mut Walk, client: u8) -> Option<usize>
+/// Where the name of the next operation of a client stands, if there is a client and it has one left.
+fn next_spot(
+    order: &[Name],
+    syncs: &SyncLists,
+    walk: &mut Walk,
+    client: Option<u8>,
+) -> Option<usize>
     requires clients { client_count syncs.now ≤ 8 }
     requires passed { AreNotBehind syncs.now order.now walk.old.used walk.old.spots }
-    ensures spot { result ≡ next_spot syncs.now order.now walk.old.used (Some client) }
+    ensures spot { result ≡ next_spot syncs.now order.now walk.old.used client }
     ensures passed { AreNotBehind syncs.now order.now walk.old.used walk.new.spots }
     ensures walk { (walk.new.read ≡ walk.old.read) × (walk.new.used ≡ walk.old.used) }
 {
+    let client = client?;
     if client >= 8 {
         return None;
     }
@@ -101,27 +107,6 @@ fn unit_client(entry: Entry, gives: bool, semaphore: u8) -> Option<u8>
     }
 }
 
-/// Where the name stands that gives a unit of the semaphore in this entry, or that takes one.
-fn unit_spot(
-    order: &[Name],
-    syncs: &SyncLists,
-    walk: &mut Walk,
-    entry: Entry,
-    gives: bool,
-    semaphore: u8,
-) -> Option<usize>
-    requires clients { client_count syncs.now ≤ 8 }
-    requires passed { AreNotBehind syncs.now order.now walk.old.used walk.old.spots }
-    ensures spot { result ≡ next_spot syncs.now order.now walk.old.used (unit_client gives semaphore entry) }
-    ensures passed { AreNotBehind syncs.now order.now walk.old.used walk.new.spots }
-    ensures walk { (walk.new.read ≡ walk.old.read) × (walk.new.used ≡ walk.old.used) }
-{
-    match unit_client(entry, gives, semaphore) {
-        Some(client) => next_spot(order, syncs, walk, client),
-        None => None,
-    }
-}
-
 /// Reads an entry.
 fn read_entry(
     order: &[Name],
@@ -131,16 +116,14 @@ fn read_entry(
     gives: bool,
     semaphore: u8,
 ) -> Option<usize>
-    requires clients { client_count syncs.now ≤ 8 }
-    requires lists { IsWellFormed syncs.now }
-    requires walk { IsWalkOf syncs.now journal.now order.now walk.old }
+    requires along { WalksAlong syncs.now journal.now order.now walk.old }
     requires more { walk.old.read < length journal.now }
-    ensures walk { IsWalkOf syncs.now journal.now order.now walk.new }
+    ensures next { WalksOnTo syncs.now journal.now order.now gives semaphore
+        walk.old result walk.new }
     ensures read { walk.new.read ≡ walk.old.read + 1 }
-    ensures spot { Finds syncs.now journal.now order.now gives semaphore walk.old result walk.new }
 {
     let entry = journal[walk.read];
-    let spot = unit_spot(order, syncs, walk, entry, gives, semaphore);
+    let spot = next_spot(order, syncs, walk, unit_client(entry, gives, semaphore));
     advance(&mut walk.used, entry, clients_of(syncs));
     walk.read += 1;
     spot
@@ -155,12 +138,10 @@ pub fn next_unit(
     gives: bool,
     semaphore: u8,
 ) -> Option<usize>
-    requires clients { client_count syncs.now ≤ 8 }
-    requires lists { IsWellFormed syncs.now }
-    requires walk { IsWalkOf syncs.now journal.now order.now walk.old }
-    ensures walk { IsWalkOf syncs.now journal.now order.now walk.new }
+    requires { WalksAlong syncs.now journal.now order.now walk.old }
+    ensures next { WalksOnTo syncs.now journal.now order.now gives semaphore
+        walk.old result walk.new }
     ensures read { IsSome result → walk.old.read < walk.new.read }
-    ensures spot { Finds syncs.now journal.now order.now gives semaphore walk.old result walk.new }
     ensures none { result ≡ None → unit_spots syncs.now journal.now order.now gives semaphore walk.old.read ≡ [] }
 {
     for index in walk.read..journal.len() {

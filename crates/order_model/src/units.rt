@@ -1,7 +1,7 @@
 //! Whether an order has each unit of a semaphore given before it is taken.
 ghost use Rattle.std.specs.Prelude.{◌≡◌, ◌≤◌, ◌↔◌, ℕ, true, false, IsTrue, slice_index, replicate};
-ghost use Rattle.rc_base.specs.Orders.Sync.{IsWellFormed, client_count, units_of};
-ghost use Rattle.order_model.specs.Checked.{IsWalkOf, Passes, are_in_turn, hands_over, takes_in, unit_spots};
+ghost use Rattle.rc_base.specs.Orders.Sync.{units_of};
+ghost use Rattle.order_model.specs.Checked.{CanBeWalked, WalksAlong, IsWalkOf, Passes, are_in_turn, hands_over, takes_in, unit_spots};
 
 use crate::spots::{Walk, next_unit, nothing_read};
 use rc_base::sync::{Entry, Name, SyncLists};
@@ -48,9 +48,7 @@ fn pass_first(
     semaphore: u8,
     units: u16,
 )
-    requires clients { client_count syncs.now ≤ 8 }
-    requires lists { IsWellFormed syncs.now }
-    requires walk { IsWalkOf syncs.now journal.now order.now takers.old }
+    requires { WalksAlong syncs.now journal.now order.now takers.old }
     ensures walk { IsWalkOf syncs.now journal.now order.now takers.new }
     ensures spots { Passes syncs.now journal.now order.now semaphore units takers.old takers.new }
 {
@@ -68,10 +66,8 @@ fn are_in_turn(
     takers: &mut Walk,
     semaphore: u8,
 ) -> bool
-    requires clients { client_count syncs.now ≤ 8 }
-    requires lists { IsWellFormed syncs.now }
-    requires givers { IsWalkOf syncs.now journal.now order.now givers.old }
-    requires takers { IsWalkOf syncs.now journal.now order.now takers.old }
+    requires givers { WalksAlong syncs.now journal.now order.now givers.old }
+    requires takers { WalksAlong syncs.now journal.now order.now takers.old }
     ensures { result ≡ are_in_turn
         (unit_spots syncs.now journal.now order.now true semaphore givers.old.read)
         (unit_spots syncs.now journal.now order.now false semaphore takers.old.read) }
@@ -94,8 +90,7 @@ fn are_in_turn(
 
 /// Each unit of the semaphore beyond the first ones is given before it is taken.
 fn hands_over(order: &[Name], syncs: &SyncLists, journal: &[Entry], semaphore: u8) -> bool
-    requires clients { client_count syncs.now ≤ 8 }
-    requires lists { IsWellFormed syncs.now }
+    requires { CanBeWalked syncs.now }
     ensures { result ≡ hands_over syncs.now journal.now order.now semaphore }
 {
     let mut givers = nothing_read();
@@ -113,8 +108,7 @@ fn hands_over(order: &[Name], syncs: &SyncLists, journal: &[Entry], semaphore: u
 
 /// Each unit of every semaphore beyond its first ones is given before it is taken.
 pub fn all_hand_over(order: &[Name], syncs: &SyncLists, journal: &[Entry]) -> bool
-    requires clients { client_count syncs.now ≤ 8 }
-    requires lists { IsWellFormed syncs.now }
+    requires { CanBeWalked syncs.now }
     ensures { IsTrue result ↔ ((semaphore : ℕ)
         → hands_over syncs.now journal.now order.now semaphore ≡ true) }
 {

@@ -39,18 +39,6 @@ fn advance_one(used: &mut [usize; 8], client: u8)
 }
 
 /// Each member has used one operation more.
-fn advance_members(used: &mut [usize; 8], entry: Entry, clients: usize)
-    requires { (client : ℕ) → slice_index used.old client < 2 ^ 63 }
-    ensures { HaveUsedOneMore (is_member clients entry) used.old used.new }
-{
-    for client in 0..8u8 {
-        if is_member(entry, client, clients) {
-            used[client as usize] += 1;
-        }
-    }
-}
-
-/// Each member has used one operation more.
 pub fn advance(used: &mut [usize; 8], entry: Entry, clients: usize)
     requires { (client : ℕ) → slice_index used.old client < 2 ^ 63 }
     ensures { HaveUsedOneMore (is_member clients entry) used.old used.new }
@@ -58,7 +46,13 @@ pub fn advance(used: &mut [usize; 8], entry: Entry, clients: usize)
     match entry {
         Entry::Give { client, .. } => advance_one(used, client),
         Entry::Take { client, .. } => advance_one(used, client),
-        _ => advance_members(used, entry, clients),
+        _ => {
+            for client in 0..8u8 {
+                if is_member(entry, client, clients) {
+                    used[client as usize] += 1;
+                }
+            }
+        }
     }
 }
 

@@ -1,6 +1,6 @@
 use Rattle.std.proofs.Common.{◌≡◌, ◌+◌, ◌<◌, ◌≤◌, ℕ, cond, slice_index, length}
 use Rattle.rc_base.specs.Orders.Journal.{is_member}
-use Rattle.order_model.proofs.walk.advance_members.Given as goal
+use Rattle.order_model.proofs.walk.advance.Given as goal
 
 abbrev pub invariant-loop-client : goal.invariant-loop-client
 invariant-loop-client l = (length l.used ≡ 8)
