@@ -1,9 +1,9 @@
 //! Parts from the lanes of the tiles, each written as it comes.
-ghost use Rattle.std.specs.Prelude.{◌≡◌, ◌<◌, ◌*◌, true, false, length, Some};
+ghost use Rattle.std.specs.Prelude.{◌≡◌, true, false, length, Some};
 ghost use Rattle.rc_base.specs.Cluster.Lanes.{EachLane};
 ghost use Rattle.rc_base.specs.Cluster.Tiles.{tile_count};
 ghost use Rattle.rc_base.specs.declared.cluster.TilePart.{TilePart};
-ghost use Rattle.assembler.specs.Drawn.{AreDrawn, IsDrawn, StaysBeside};
+ghost use Rattle.assembler.specs.Drawn.{AreBytesOf, AreDrawn, HaveTile, IsDrawn, IsPlaceWritten};
 ghost use Rattle.assembler.specs.Places.{fits, is_misfit, AllFit, IsFound, AreFound, IsDropped, AreDropped, HasMisfit};
 
 use crate::found::fits;
@@ -14,14 +14,8 @@ use rc_base::window::Layout;
 
 // Writes the part that came for a tile, if one did. Whether it has another number of pixels than its tile, and was not written.
 fn write_place(rgb: &mut [u8], layout: &Layout, tile: usize, place: &Option<TilePart>) -> bool
-    requires columns { 0 < layout.now.columns }
-    requires rows { 0 < layout.now.rows }
-    requires tile { tile < tile_count layout.now }
-    requires bytes { length rgb.old ≡ 3 * layout.now.width * layout.now.height }
-    ensures size { length rgb.new ≡ length rgb.old }
-    ensures misfit { result ≡ is_misfit layout.now tile place.now }
-    ensures drawn { (p : TilePart) → place.now ≡ Some p → fits layout.now tile p ≡ true → IsDrawn layout.now rgb.new tile p }
-    ensures others { StaysBeside layout.now tile rgb.old rgb.new }
+    requires { HaveTile layout.now tile rgb.old }
+    ensures { IsPlaceWritten layout.now tile place.now result rgb.old rgb.new }
 {
     let Some(part) = place else {
         return false;
@@ -41,18 +35,12 @@ fn take_part<I: Inlet<TilePart>>(
     layout: &Layout,
     tile: usize,
 ) -> bool
-    requires columns { 0 < layout.now.columns }
-    requires rows { 0 < layout.now.rows }
-    requires tile { tile < tile_count layout.now }
-    requires bytes { length rgb.old ≡ 3 * layout.now.width * layout.now.height }
+    requires bytes { HaveTile layout.now tile rgb.old }
     requires fit { is_misfit layout.now tile place.old ≡ false }
     requires drawn { (p : TilePart) → place.old ≡ Some p → fits layout.now tile p ≡ true → IsDrawn layout.now rgb.old tile p }
     ensures lane_of { I.lane_of lane.new ≡ I.lane_of lane.old }
     ensures found { IsFound I.gave I.same I.empty_seen I.bare place.old lane.old place.new lane.new }
-    ensures size { length rgb.new ≡ length rgb.old }
-    ensures misfit { result ≡ is_misfit layout.now tile place.new }
-    ensures drawn { (p : TilePart) → place.new ≡ Some p → fits layout.now tile p ≡ true → IsDrawn layout.now rgb.new tile p }
-    ensures others { StaysBeside layout.now tile rgb.old rgb.new }
+    ensures written { IsPlaceWritten layout.now tile place.new result rgb.old rgb.new }
 {
     if place.is_some() {
         return false;
@@ -69,11 +57,9 @@ pub fn take_parts<I: Inlet<TilePart>>(
     rgb: &mut [u8],
     layout: &Layout,
 ) -> bool
-    requires columns { 0 < layout.now.columns }
-    requires rows { 0 < layout.now.rows }
     requires lanes { length lanes.old ≡ tile_count layout.now }
     requires places { length places.old ≡ tile_count layout.now }
-    requires bytes { length rgb.old ≡ 3 * layout.now.width * layout.now.height }
+    requires bytes { AreBytesOf layout.now rgb.old }
     requires fit { AllFit layout.now places.old }
     requires drawn { AreDrawn layout.now places.old rgb.old }
     ensures lane_of { EachLane (λ i a b. I.lane_of b ≡ I.lane_of a) lanes.old lanes.new }

@@ -25,25 +25,25 @@ loop-tile-preserved g c =
       found = grind (arith, common_steps);
       later = search rules;
       waiting = search rules;
-      size = c.take_part-odd.ensures.size ∙ c.loop-tile.invariant.size;
+      size = c.take_part-odd.ensures.written.size ∙ c.loop-tile.invariant.size;
       misfit = elim c.if-misfit.branch [
         | then-misfit w ↦ λ _.
             let m = c.loop-tile.invariant.misfit w.if-misfit.true in
             (m.0, omega (arith, m.1), ap (is_misfit l m.0) (there m.0 (λ same. absurd (omega (arith, same, m.1)))) ∙ m.2)
-        | else-misfit w ↦ λ is. (tile, omega arith, ap (is_misfit l tile) here ∙ sym c.take_part-odd.ensures.misfit ∙ sym w.misfit-is ∙ is)
+        | else-misfit w ↦ λ is. (tile, omega arith, ap (is_misfit l tile) here ∙ sym c.take_part-odd.ensures.written.misfit ∙ sym w.misfit-is ∙ is)
       ];
       fit = elim c.if-misfit.branch [
         | then-misfit w ↦ λ is. let e = w.misfit-is in let f = w.if-misfit.true in absurd (cc)
         | else-misfit w ↦ λ is.
             at_one_or_other (λ (k : ℕ). is_misfit l k (in_place (slice_set places tile o) k) ≡ false) tile
-            (ap (is_misfit l tile) here ∙ sym c.take_part-odd.ensures.misfit ∙ sym w.misfit-is ∙ is)
+            (ap (is_misfit l tile) here ∙ sym c.take_part-odd.ensures.written.misfit ∙ sym w.misfit-is ∙ is)
             (λ k differs. ap (is_misfit l k) (there k differs) ∙ c.loop-tile.invariant.fit w.if-misfit.false k)
       ];
       drawn = at_one_or_other (λ (k : ℕ). (p : TilePart) → in_place (slice_set places tile o) k ≡ Some p → fits l k p ≡ true → IsDrawn l rgb k p) tile
-          (λ p is fit. c.take_part-odd.ensures.drawn p (sym here ∙ is) fit)
+          (λ p is fit. c.take_part-odd.ensures.written.drawn p (sym here ∙ is) fit)
           (λ k differs p is fit.
           let was : in_place places k ≡ Some p = sym (there k differs) ∙ is in
           let low = place_below places k p was in
-          stays_drawn l tile k p c.loop-tile.rgb rgb c.requires.columns c.requires.rows (omega (arith, low, c.loop-tile.auto.places, c.requires.places)) differs
-          c.take_part-odd.ensures.others (c.loop-tile.invariant.drawn k p was fit));
+          stays_drawn l tile k p c.loop-tile.rgb rgb c.requires.bytes.columns c.requires.bytes.rows (omega (arith, low, c.loop-tile.auto.places, c.requires.places)) differs
+          c.take_part-odd.ensures.written.others (c.loop-tile.invariant.drawn k p was fit));
     }
