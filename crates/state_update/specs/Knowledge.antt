@@ -138,6 +138,12 @@ all_sets x = sets_by x.told.now x.context.now x.image
 abbrev pub AddsDirtyAlone : Examination → Type 0
 AddsDirtyAlone x = CleanElementsAreNotSet x.dirty.now x.tile x.told.now x.context.now x.image
 
+-- the same, for one of 32 tiles, and the texture whose image it examines is a private one
+pub record IsSoundExamination (x : Examination) : Type 0 where
+  pub named : IsPrivateName x.image
+  pub server : x.tile < 32
+  pub clean : AddsDirtyAlone x
+
 -- the looks at the elements of a group
 abbrev pub element_looks : List ℕ → ℕ → ℕ → ℕ
 element_looks bits tile g = if is_group_dirty bits g tile then slice_index group_sizes g else 0

@@ -1,7 +1,7 @@
 //! What a parcel examines: the elements that are dirty for its tile.
 ghost use Rattle.std.specs.Prelude.{◌≡◌, ◌<◌, ◌≤◌, ◌+◌, ◌^◌, ◌++◌, [], IfOk, IsOk, OnOk, length};
 ghost use Rattle.rc_base.specs.Contexts.Elements.{element_count, group_sizes};
-ghost use Rattle.state_update.specs.Knowledge.{AddsDirtyAlone, IsPrivateName, all_sets, element_looks, group_sets, looks_from, sets_of};
+ghost use Rattle.state_update.specs.Knowledge.{IsSoundExamination, all_sets, element_looks, group_sets, looks_from, sets_of};
 
 use crate::told::Told;
 use dirty_bits::{Dirty, Looks};
@@ -31,9 +31,7 @@ impl<'a> Examination<'a> {
         looks: &mut Looks,
     ) -> Result<(), OutOfMemory>
         requires element { element < element_count }
-        requires named { IsPrivateName self.now.image }
-        requires server { self.now.tile < 32 }
-        requires clean { AddsDirtyAlone self.now }
+        requires sound { IsSoundExamination self.now }
         requires room { looks.old < 2 ^ 63 }
         ensures added { OnOk result (sets.new ≡ sets.old ++ sets_of self.now element) }
         ensures quiet { sets_of self.now element ≡ [] → IsOk result }
@@ -49,9 +47,7 @@ impl<'a> Examination<'a> {
     // Looks at a group, and at its elements where one of them is dirty.
     fn add_group(&self, sets: &mut Sets, group: u8, looks: &mut Looks) -> Result<(), OutOfMemory>
         requires group { group < length group_sizes }
-        requires named { IsPrivateName self.now.image }
-        requires server { self.now.tile < 32 }
-        requires clean { AddsDirtyAlone self.now }
+        requires sound { IsSoundExamination self.now }
         requires room { looks.old + 256 ≤ 2 ^ 63 }
         ensures added { OnOk result (sets.new ≡ sets.old ++ group_sets self.now group) }
         ensures quiet { group_sets self.now group ≡ [] → IsOk result }
@@ -70,9 +66,7 @@ impl<'a> Examination<'a> {
 
     /// The elements that are dirty and differ, in the order of their numbers.
     pub fn sets(&self, looks: &mut Looks) -> Result<Sets, OutOfMemory>
-        requires named { IsPrivateName self.now.image }
-        requires server { self.now.tile < 32 }
-        requires clean { AddsDirtyAlone self.now }
+        requires sound { IsSoundExamination self.now }
         requires room { looks.old < 2 ^ 62 + 1 }
         ensures sets { IfOk result (λ sets. sets ≡ all_sets self.now) }
         ensures quiet { all_sets self.now ≡ [] → IsOk result }

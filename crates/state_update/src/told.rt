@@ -1,7 +1,6 @@
 //! What one tile was told.
-ghost use Rattle.std.specs.Prelude.{◌≡◌, ◌<◌, ◌≤◌, ◌++◌, [], IsOk, OnOk, length, replicate};
+ghost use Rattle.std.specs.Prelude.{◌≡◌, ◌++◌, [], IsOk, OnOk, length, replicate};
 ghost use Rattle.rc_base.specs.Contexts.Context.{default_state, private_count};
-ghost use Rattle.rc_base.specs.Contexts.Elements.{scalar_count};
 ghost use Rattle.state_update.specs.Knowledge.{IsPrivateName, edit_told, element_sets, first_told, image_set, told_after};
 
 use crate::images::image_of;
@@ -40,8 +39,7 @@ impl Told {
 
     #[tactic(auto, using(textures::proofs::Names::at_name_below))]
     fn edit(&self, name: u8) -> u32
-        requires low { 0 < name }
-        requires high { name ≤ private_count }
+        requires { IsPrivateName (Some name) }
         ensures { result ≡ edit_told self.now name }
     {
         self.edits[usize::from(name) - 1]
@@ -55,8 +53,7 @@ impl Told {
         context: &Context,
         name: u8,
     ) -> Result<(), OutOfMemory>
-        requires low { 0 < name }
-        requires high { name ≤ private_count }
+        requires { IsPrivateName (Some name) }
         ensures added { OnOk result (sets.new ≡ sets.old ++ image_set self.now context.now name) }
         ensures quiet { image_set self.now context.now name ≡ [] → IsOk result }
     {
@@ -69,29 +66,6 @@ impl Told {
             value,
         })?;
         Ok(())
-    }
-
-    // The same of another element than the scalar ones, where it is that of the image.
-    fn add_examined(
-        &self,
-        sets: &mut Sets,
-        alloc: Global,
-        context: &Context,
-        image: Option<u8>,
-        element: u8,
-    ) -> Result<(), OutOfMemory>
-        requires named { IsPrivateName image }
-        requires element { scalar_count ≤ element }
-        ensures added { OnOk result (sets.new ≡ sets.old ++ element_sets self.now context.now image element) }
-        ensures quiet { element_sets self.now context.now image element ≡ [] → IsOk result }
-    {
-        let Some(name) = image else {
-            return Ok(());
-        };
-        if image_element(name) != element {
-            return Ok(());
-        }
-        self.add_image(sets, alloc, context, name)
     }
 
     /// Adds an element where the tile was told another value of it: a scalar element, or the image where the parcel examines it.
@@ -110,7 +84,13 @@ impl Told {
         if element < SCALAR_COUNT {
             return add_scalar(sets, &self.state, context.state(), element);
         }
-        self.add_examined(sets, alloc, context, image, element)
+        let Some(name) = image else {
+            return Ok(());
+        };
+        if image_element(name) != element {
+            return Ok(());
+        }
+        self.add_image(sets, alloc, context, name)
     }
 
     /// Notes that the tile was told the context's values, and this image.

@@ -20,7 +20,7 @@ returns-then-not-group_dirty-clause-added c =
     let most = group_within c.args.group c.requires.group in
     let clean = sym c.group_dirty.ensures.answer ∙ c.if-not-group_dirty.true in
     let none = nothing_of f a n (λ e from to.
-    c.requires.clean e (omega (arith, to, most)) (none_at (λ e. is_dirty c.args.self.now.dirty.now e c.args.self.now.tile) a n e clean from to)) in
+    c.requires.sound.clean e (omega (arith, to, most)) (none_at (λ e. is_dirty c.args.self.now.dirty.now e c.args.self.now.tile) a n e clean from to)) in
     sym (ap (λ (l : List ElementSet). c.args.sets.now ++ l) none ∙ append-nil c.args.sets.now)
 
 pub returns-in_err-add_element-clause-quiet : goal.returns-in_err-add_element-clause-quiet

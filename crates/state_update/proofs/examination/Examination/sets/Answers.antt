@@ -16,7 +16,7 @@ returns-in_err-add_group-clause-quiet c = λ none.
     let f = element_sets c.args.self.now.told.now c.args.self.now.context.now c.args.self.now.image in
     let most = group_within c.loop-group.group c.loop-group-test.true in
     let here = nothing_within f 0 element_count (group_start c.loop-group.group) (slice_index group_sizes c.loop-group.group)
-    (sym (sets_by_elements c.args.self.now.told.now c.args.self.now.context.now c.args.self.now.image c.requires.named) ∙ none) (omega arith) (omega (arith, most)) in
+    (sym (sets_by_elements c.args.self.now.told.now c.args.self.now.context.now c.args.self.now.image c.requires.sound.named) ∙ none) (omega arith) (omega (arith, most)) in
     absurd (true≢false (sym (c.in_err-add_group.ensures.quiet here)))
 
 pub loop-group-preserved : goal.loop-group-preserved
@@ -47,7 +47,7 @@ pub returns-clause-sets : goal.returns-clause-sets
 returns-clause-sets c =
     let f = element_sets c.args.self.now.told.now c.args.self.now.context.now c.args.self.now.image in
     c.loop-group.invariant.sets ∙ ap (λ (n : ℕ). flat_map f (range_with_len 0 (group_start n))) (last c)
-    ∙ sym (sets_by_elements c.args.self.now.told.now c.args.self.now.context.now c.args.self.now.image c.requires.named)
+    ∙ sym (sets_by_elements c.args.self.now.told.now c.args.self.now.context.now c.args.self.now.image c.requires.sound.named)
 
 pub returns-clause-looked : goal.returns-clause-looked
 returns-clause-looked c =

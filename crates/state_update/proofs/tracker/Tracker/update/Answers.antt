@@ -1,9 +1,11 @@
-use Rattle.std.proofs.Common.{◌≡◌, ◌+◌, ◌==◌, ◌&&◌, not, ℕ, Bool, List, arith, sym, ap, ap₂, subst, ◌∙◌, true≢false}
+use Rattle.std.proofs.Common.{◌≡◌, ◌+◌, ◌<◌, ◌≤◌, ◌==◌, ◌&&◌, not, ℕ, Bool, List, Some, None, arith, sym, ap, ap₂, subst, ◌∙◌, true≢false}
+use Rattle.std.specs.Prelude.{IfSome}
 use Rattle.std.specs.declared.option.Option.{Option}
 use Rattle.dirty_bits.specs.Bits.{is_any_dirty, is_dirty}
 use Rattle.rc_base.specs.Cluster.Parcels.{sets_for}
+use Rattle.rc_base.specs.Contexts.Context.{private_count}
 use Rattle.rc_base.specs.declared.state.ElementSet.{ElementSet}
-use Rattle.state_update.specs.Knowledge.{CleanElementsAreNotSet, Knows, Tracked, after_sets, is_examined, looks_from}
+use Rattle.state_update.specs.Knowledge.{CleanElementsAreNotSet, IsPrivateName, Knows, Tracked, after_sets, is_examined, looks_from}
 use Rattle.state_update.proofs.ByElements.{examined_are}
 use Rattle.state_update.proofs.Updates.{clean, knows_next, knows_still, looks_of_some, none_pending, read_of, sets_known, still_none, view_of}
 use Rattle.state_update.proofs.tracker.Tracker.update.Goals as goal
@@ -24,13 +26,22 @@ returns-then-not-any_dirty-clause-pending c = λ t e low.
     let none = ap (λ (t : Tracked). is_any_dirty t.bits c.args.tile) (sym c.self.view_is) ∙ sym c.any_dirty.ensures.answer ∙ c.if-not-any_dirty.true in
     still_none c.args.self.now c.args.tile c.args.context.now c.args.draws c.requires.bound none t e
 
-pub sets-requires-clause-clean : goal.sets-requires-clause-clean
-sets-requires-clause-clean c =
+-- a name within bounds, if there is one, is a private texture's
+private_name : (name : Option ℕ) → IfSome name (λ n. 0 < n) → IfSome name (λ n. n ≤ private_count) → IsPrivateName name
+private_name None low high = tt
+private_name (Some n) low high = (low, high)
+
+pub sets-requires-clause-sound : goal.sets-requires-clause-sound
+sets-requires-clause-sound c =
     let read = read_of c.args.self.now _ c.args.tile c.from.result c.args.context.now c.args.draws c.image_examined-image.result c.index-told.result.now
     c.requires.tile c.requires.bound c.image_examined-image.ensures.name c.self.view_is c.from.ensures c.index-told.ensures in
-    subst (λ (t : Tracked). CleanElementsAreNotSet t.bits c.args.tile c.index-told.result.now c.args.context.now c.image_examined-image.result) (sym c.self.view_is)
-    (clean c.args.self.now c.args.tile c.args.context.now c.args.draws c.image_examined-image.result c.index-told.result.now read
-    c.requires.settled c.has_each_name.ensures)
+    record {
+      named = private_name c.image_examined-image.result c.image_examined-image.ensures.low c.image_examined-image.ensures.high;
+      server = c.requires.server;
+      clean = subst (λ (t : Tracked). CleanElementsAreNotSet t.bits c.args.tile c.index-told.result.now c.args.context.now c.image_examined-image.result) (sym c.self.view_is)
+          (clean c.args.self.now c.args.tile c.args.context.now c.args.draws c.image_examined-image.result c.index-told.result.now read
+          c.requires.settled c.has_each_name.ensures);
+    }
 
 pub returns-in_err-sets-clause-quiet : goal.returns-in_err-sets-clause-quiet
 returns-in_err-sets-clause-quiet c = λ values k none.
