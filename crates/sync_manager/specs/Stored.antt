@@ -59,6 +59,16 @@ meet_at counts waiting n barrier = option_map_or (λ count.
 abbrev pub swap_at : List (Option WaitAt) → ℕ → Option Entry
 swap_at waiting n = cond (how_many (λ c. is_at_swap (op_at waiting c)) n == n) (Some Swap) None
 
+-- of n clients each has a slot, and they are eight at most
+pub record HaveSlots (waiting : List (Option WaitAt)) (n : ℕ) : Type 0 where
+  pub slots : n ≤ length waiting
+  pub most : n ≤ 8
+
+-- and the barriers can be named by a byte
+pub record CanBeSearched (counts : List ℕ) (waiting : List (Option WaitAt)) (n : ℕ) : Type 0 where
+  pub clients : HaveSlots waiting n
+  pub names : length counts < 256
+
 -- of n clients, with these counts of barriers
 abbrev pub grant_at : List ℕ → List ℕ → List (Option WaitAt) → ℕ → Option Entry
 grant_at counts units waiting n =

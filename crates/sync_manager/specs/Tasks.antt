@@ -9,7 +9,7 @@ use Rattle.rc_base.specs.declared.sync.Request.TheVariants as request
 use Rattle.rc_base.specs.declared.sync.SyncLists.{SyncLists}
 use Rattle.rc_base.specs.declared.sync.SyncOp.{SyncOp}
 use Rattle.sync_manager.specs.Books.{AllWaitOrEnded, first_in, is_wanted, journal_in, names_declared}
-use Rattle.sync_manager.specs.Cores.{book_of, clients_of, drained_in, AreServed, IsManagerStep}
+use Rattle.sync_manager.specs.Cores.{book_of, clients_of, drained_in, AreServed, AreSupplied, IsManagerStep}
 use Rattle.sync_manager.specs.Progress.{ManagerProgress, is_end, IsFoundEmpty, IsFoundFull, taken_of, sent_to}
 use Rattle.sync_manager.specs.declared.deed.ManagerDeed.{ManagerDeed}
 use Rattle.sync_manager.specs.declared.deed.ManagerDeed.TheVariants.{Receives, Loses}
@@ -80,6 +80,11 @@ abbrev pub IsTaking : ManagerDeed → ℕ → Request → Type 0
 IsTaking deed client r = (deed ≡ Receives client r)
     ⊎ ((place : ℕ) × (op : SyncOp) × (r ≡ request.Op place op) × (deed ≡ Loses client place op))
 
+-- by a step of the core
+pub record IsTakingIn (core : ManagerCore) (client : ℕ) (r : Request) (deed : ManagerDeed) (later : ManagerCore) : Type 0 where
+  pub step : IsManagerStep core deed later
+  pub taken : IsTaking deed client r
+
 -- ---- the lanes that a step doesn't touch
 
 -- nothing is taken of a client, and no lane of requests is found empty
@@ -98,3 +103,10 @@ module _ {I : Type 0} (lane_of : I → List ℕ) (gave : I → Request → I →
     pub step : IsManagerStep core deed later
     pub requests : AreServed lane_of gave same empty_seen bare core deed before after
     pub grants : LeavesGrants deed
+
+module _ {O : Type 0} (lane_of : O → List ℕ) (sent : O → List Grant) (full_seen : O → ℕ) (full : O → Type 0) where
+  -- a step that appends a grant, or finds its lane full, and touches no lane of requests
+  pub record IsSupplying (core : ManagerCore) (deed : ManagerDeed) (later : ManagerCore) (before after : List O) : Type 0 where
+    pub step : IsManagerStep core deed later
+    pub grants : AreSupplied lane_of sent full_seen full deed before after
+    pub requests : LeavesRequests deed

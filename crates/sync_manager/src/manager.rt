@@ -36,7 +36,7 @@ impl ManagerCore {
     ghost use Rattle.sync_manager.specs.Stored.{CountSomeone};
     ghost use Rattle.sync_manager.specs.Progress.{answer_of};
     ghost use Rattle.sync_manager.specs.Cores.{clients_of, tiles_of, book_of, drained_in, is_short, AreLeft, AreWanted, HasToldAll, AreServed, AreSupplied, IsManagerStep, IsNewManager, OfProgress, AreTaken, AreFoundEmpty, AreSent, AreFoundFull};
-    ghost use Rattle.sync_manager.specs.Tasks.{AllSupplied, MayReceive, IsDeliveryIn, IsReceivingIn, IsDrainingIn, IsTask, IsEnding, IsNoted, IsTaking, LeavesRequests, IsServing};
+    ghost use Rattle.sync_manager.specs.Tasks.{AllSupplied, MayReceive, IsDeliveryIn, IsReceivingIn, IsDrainingIn, IsTask, IsEnding, IsNoted, IsTakingIn, IsServing, IsSupplying};
     ghost use Rattle.rc_base.specs.declared.sync.Grant.TheVariants as grant;
     ghost use Rattle.sync_manager.specs.declared.deed.Task.TheVariants as task;
     ghost use Rattle.sync_manager.specs.declared.deed.ManagerDeed.{ManagerDeed};
@@ -170,8 +170,7 @@ impl ManagerCore {
     fn arrive(&mut self, client: u8, place: u32, op: SyncOp) -> ManagerDeed
         requires received { MayReceive self.old client }
         requires declared { names_declared (book_of self.old) op ≡ true }
-        ensures step { IsManagerStep self.old result self.new }
-        ensures taken { IsTaking result client (Request.Op place op) }
+        ensures { IsTakingIn self.old client (Request.Op place op) result self.new }
     {
         let request = Request::Op { place, op };
         match self.book.arrive(client, place, op) {
@@ -200,8 +199,7 @@ impl ManagerCore {
     /// A request that was taken arrives in the book; one for what isn't declared counts as End.
     fn enter(&mut self, client: u8, request: Request) -> ManagerDeed
         requires { MayReceive self.old client }
-        ensures step { IsManagerStep self.old result self.new }
-        ensures taken { IsTaking result client request }
+        ensures { IsTakingIn self.old client request result self.new }
     {
         if let Request::Op { place, op } = request {
             if self.book.is_declared(op) {
@@ -267,10 +265,8 @@ impl ManagerCore {
         requires lanes { length grants.old ≡ tiles_of self.old }
         requires due { IsDeliveryIn self.old tile grant }
         requires tile { tile < tiles_of self.old }
-        ensures step { IsManagerStep self.old result self.new }
-        ensures grants { AreSupplied O.lane_of O.sent O.full_seen O.full result
+        ensures { IsSupplying O.lane_of O.sent O.full_seen O.full self.old result self.new
             grants.old grants.new }
-        ensures requests { LeavesRequests result }
     {
         match grants[tile as usize].push(grant) {
             Ok(()) => {

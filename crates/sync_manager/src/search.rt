@@ -4,7 +4,7 @@ ghost use Rattle.std.specs.Int.{bit_at};
 ghost use Rattle.rc_base.specs.Lists.{at_name};
 ghost use Rattle.rc_base.specs.Orders.Grant.{first, give_by, take_by, is_at_barrier, is_at_swap, lowest};
 ghost use Rattle.rc_base.specs.Orders.Journal.{how_many, has};
-ghost use Rattle.sync_manager.specs.Stored.{is_name, wait_at, op_at, units_at, meet_at, swap_at, grant_at};
+ghost use Rattle.sync_manager.specs.Stored.{CanBeSearched, HaveSlots, is_name, wait_at, op_at, units_at, meet_at, swap_at, grant_at};
 
 use rc_base::sync::{Entry, SyncOp, WaitAt, has};
 
@@ -157,8 +157,7 @@ fn members_below(members: u8, clients: u8) -> u8
 
 /// The lowest clients that wait at the barrier, so many of them.
 fn lowest_at(waiting: &[Option<WaitAt>], clients: u8, barrier: u8, count: u8) -> u8
-    requires slots { clients ≤ length waiting.now }
-    requires most { clients ≤ 8 }
+    requires { HaveSlots waiting.now clients }
     ensures { result ≡ lowest (λ c. is_at_barrier barrier (op_at waiting.now c)) count clients }
 {
     let mut members = 0;
@@ -174,8 +173,7 @@ fn lowest_at(waiting: &[Option<WaitAt>], clients: u8, barrier: u8, count: u8) ->
 
 /// The meeting at a barrier that counts so many, where enough clients wait there.
 fn meet_at(counts: &[u8], waiting: &[Option<WaitAt>], clients: u8, barrier: u8) -> Option<Entry>
-    requires slots { clients ≤ length waiting.now }
-    requires most { clients ≤ 8 }
+    requires { HaveSlots waiting.now clients }
     ensures { result ≡ meet_at counts.now waiting.now clients barrier }
 {
     if barrier == 0 {
@@ -198,9 +196,7 @@ fn meet_at(counts: &[u8], waiting: &[Option<WaitAt>], clients: u8, barrier: u8) 
 
 /// The Meet of the lowest barrier at which enough clients wait.
 fn first_meet(counts: &[u8], waiting: &[Option<WaitAt>], clients: u8) -> Option<Entry>
-    requires slots { clients ≤ length waiting.now }
-    requires most { clients ≤ 8 }
-    requires names { length counts.now < 256 }
+    requires { CanBeSearched counts.now waiting.now clients }
     ensures { result ≡ first (meet_at counts.now waiting.now clients) 1 (length counts.now) }
 {
     for before in 0..counts.len() {
@@ -218,9 +214,7 @@ pub fn grant_at(
     waiting: &[Option<WaitAt>],
     clients: u8,
 ) -> Option<Entry>
-    requires slots { clients ≤ length waiting.now }
-    requires most { clients ≤ 8 }
-    requires names { length counts.now < 256 }
+    requires { CanBeSearched counts.now waiting.now clients }
     ensures { result ≡ grant_at counts.now units.now waiting.now clients }
 {
     if let Some(entry) = first_give(waiting, clients) {
