@@ -1,8 +1,6 @@
 -- Ranges of whole numbers, and rectangles made of them.
-use Rattle.std.specs.Prelude.{◌≡◌, Bool, ◌&&◌, ℤ, pos, ◌+ℤ◌, ◌<ℤ◌, int_le, int_lt}
+use Rattle.std.specs.Prelude.{◌≡◌, Bool, ◌&&◌, ℤ, ◌+ℤ◌, ◌<ℤ◌, int_le, int_lt}
 use Rattle.rc_base.specs.Cluster.Tiles.{is_in_rect}
-use Rattle.rc_base.specs.Drawing.Window.{axis_of}
-use Rattle.rc_base.specs.declared.interval.Interval.{Interval}
 use Rattle.rc_base.specs.declared.window.Rect.{Rect}
 use Rattle.bounds_bucket.specs.declared.range.Range.{Range}
 
@@ -13,10 +11,6 @@ is_among r p = int_le r.from p && int_lt p r.end
 -- the numbers of a range that lie from `low` to below `low + size`
 abbrev pub IsCut : Range → ℤ → ℤ → Range → Type 0
 IsCut r low size part = (p : ℤ) → is_among part p ≡ (is_among r p && (int_le low p && int_lt p (low +ℤ size)))
-
--- the window coordinates of an interval where w is one, by its end points
-abbrev pub unit_axis_over : ℤ → ℤ → Interval → Interval
-unit_axis_over origin size x = record { lo = axis_of origin size x.lo (pos 65536); hi = axis_of origin size x.hi (pos 65536) }
 
 -- the part has exactly the pixels of the rectangle that pass a test
 abbrev pub IsPartWhere : Rect → (ℤ → ℤ → Bool) → Rect → Type 0

@@ -30,6 +30,12 @@ pub record StandsAt (s : State) (v : Vertex) (p : WindowVertex) : Type 0 where
   pub y : p.y ≡ (window_of s v).y
   pub bounds : IsInBounds p
 
+-- the corners of a triangle lie within the bounds
+pub record AreCornersInBounds (u v w : WindowVertex) : Type 0 where
+  pub a : IsInBounds u
+  pub b : IsInBounds v
+  pub c : IsInBounds w
+
 -- ends that no number lies between: the least is the greatest number of 32 bits, and the other way round
 pub record AreApart (e : Ends) : Type 0 where
   pub least : e.least ≡ pos 2147483647

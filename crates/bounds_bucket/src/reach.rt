@@ -1,10 +1,11 @@
 //! Which pixels are in reach of clip coordinates that lie in intervals.
 ghost use Rattle.std.specs.Prelude.{◌≡◌, ◌^◌, ◌*◌, true, ℕ, ℤ, pos, ◌&&◌, ◌+ℤ◌, ◌*ℤ◌, ◌<ℤ◌, ◌≤ℤ◌, int_le, int_lt};
-ghost use Rattle.rc_base.specs.Numbers.{Within, entry, fits_i32};
+ghost use Rattle.rc_base.specs.Numbers.{Within, fits_i32};
 ghost use Rattle.rc_base.specs.Drawing.Window.{axis_of};
 ghost use Rattle.rc_base.specs.Drawing.Cover.{centre};
 ghost use Rattle.rc_base.specs.Intervals.{AreEndsWithin, IsOrdered, OfEach, interval_at, transformed_over};
-ghost use Rattle.bounds_bucket.specs.Ranges.{is_among, unit_axis_over, IsPartWhere};
+ghost use Rattle.bounds_bucket.specs.Hulls.{AreAllWithin, CanBeReached};
+ghost use Rattle.bounds_bucket.specs.Ranges.{is_among, IsPartWhere};
 ghost use Rattle.rc_base.specs.Cluster.ObjectBox.{axis_over, clip_over, dividends, divisors, moved_by, is_enclosed, may_be_near, is_amid_places, is_in_reach};
 
 use crate::boxes::rect_of;
@@ -22,8 +23,7 @@ const ONE: i128 = 65_536;
 // The product of a matrix and a vector of which each entry lies in an interval. The identity is not worth a product: most blocks are small.
 #[tactic(auto, unfolding(rc_base::specs::Intervals::transformed_over))]
 fn transform_over(m: &Mat4, b: &[Interval; 4]) -> [Interval; 4]
-    requires bounded { OfEach (AreEndsWithin (2 ^ 64)) b.now }
-    requires ordered { OfEach IsOrdered b.now }
+    requires { AreAllWithin (2 ^ 64) b.now }
     ensures value { result ≡ transformed_over m.now.m b.now }
     ensures ordered { OfEach IsOrdered result }
     ensures small { (n : ℕ) → OfEach (AreEndsWithin n) b.now → OfEach (AreEndsWithin (2 ^ 17 * n)) result }
@@ -42,11 +42,9 @@ fn transform_over(m: &Mat4, b: &[Interval; 4]) -> [Interval; 4]
 /// The clip coordinates of all positions that lie in these intervals.
 #[tactic(auto, unfolding(rc_base::specs::Cluster::ObjectBox::clip_over))]
 pub(crate) fn clip_over(state: &State, b: &[Interval; 4]) -> [Interval; 4]
-    requires ordered { OfEach IsOrdered b.now }
-    requires small { OfEach (AreEndsWithin (2 ^ 31)) b.now }
+    requires { AreAllWithin (2 ^ 31) b.now }
     ensures value { result ≡ clip_over state.now b.now }
-    ensures ordered { OfEach IsOrdered result }
-    ensures small { OfEach (AreEndsWithin (2 ^ 65)) result }
+    ensures range { AreAllWithin (2 ^ 65) result }
 {
     let eye = transform_over(&state.modelview, b);
     transform_over(&state.projection, &eye)
@@ -145,7 +143,10 @@ fn unit_place(origin: i32, size: i32, x: i128) -> i128
 fn unit_axis_over(origin: i32, size: i32, x: Interval) -> Interval
     requires low { fits_i32 x.lo ≡ true }
     requires high { fits_i32 x.hi ≡ true }
-    ensures value { result ≡ unit_axis_over origin size x }
+    ensures value { result ≡ record {
+      lo = axis_of origin size x.lo (pos 65536);
+      hi = axis_of origin size x.hi (pos 65536);
+    } }
     ensures small { AreEndsWithin (2 ^ 102) result }
 {
     Interval {
@@ -246,11 +247,8 @@ fn may_be_near(clip: &[Interval; 4]) -> bool
 // The pixels of a rectangle whose centres lie between the window coordinates.
 #[tactic(auto, unfolding(rc_base::specs::Cluster::ObjectBox::is_amid_places))]
 fn amid_places(rect: Rect, state: &State, clip: &[Interval; 4]) -> Rect
-    requires wide { pos 0 ≤ℤ entry state.now.viewport 2 }
-    requires high { pos 0 ≤ℤ entry state.now.viewport 3 }
+    requires reach { CanBeReached state.now clip.now }
     requires above { pos 0 <ℤ (interval_at clip.now 3).lo }
-    requires ordered { OfEach IsOrdered clip.now }
-    requires small { OfEach (AreEndsWithin (2 ^ 65)) clip.now }
     ensures { IsPartWhere rect (is_amid_places state.now clip.now) result }
 {
     let [left, bottom, width, height] = state.viewport;
@@ -262,10 +260,7 @@ fn amid_places(rect: Rect, state: &State, clip: &[Interval; 4]) -> Rect
 
 /// The pixels of a rectangle that are in reach.
 pub(crate) fn reached(rect: Rect, state: &State, clip: &[Interval; 4]) -> Rect
-    requires wide { pos 0 ≤ℤ entry state.now.viewport 2 }
-    requires high { pos 0 ≤ℤ entry state.now.viewport 3 }
-    requires ordered { OfEach IsOrdered clip.now }
-    requires small { OfEach (AreEndsWithin (2 ^ 65)) clip.now }
+    requires { CanBeReached state.now clip.now }
     ensures { IsPartWhere rect (is_in_reach state.now clip.now) result }
 {
     if may_be_near(clip) {

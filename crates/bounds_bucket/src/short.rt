@@ -1,10 +1,10 @@
 //! Which pixels are in reach of positions that no matrix moves: their coordinates have 32 bits, and numbers of 64 bits do.
 ghost use Rattle.std.specs.Prelude.{◌≡◌, ◌^◌, ℤ, pos, true, ◌&&◌, ◌+ℤ◌, ◌*ℤ◌, ◌<ℤ◌, ◌≤ℤ◌, int_le, int_lt, if◌then◌else◌};
-ghost use Rattle.rc_base.specs.Numbers.{Within, entry, floor_quotient};
+ghost use Rattle.rc_base.specs.Numbers.{Within, floor_quotient};
 ghost use Rattle.rc_base.specs.Drawing.Cover.{centre};
 ghost use Rattle.rc_base.specs.Intervals.{IsOrdered, OfEach};
 ghost use Rattle.rc_base.specs.Cluster.ObjectBox.{axis_over, clip_over, is_enclosed, is_in_reach, may_be_near};
-ghost use Rattle.bounds_bucket.specs.Hulls.{IsShort, interval_of, intervals_of};
+ghost use Rattle.bounds_bucket.specs.Hulls.{CanBePlaced, IsShort, interval_of, intervals_of};
 ghost use Rattle.bounds_bucket.specs.Ranges.{is_among, IsPartWhere};
 
 use crate::boxes::rect_of;
@@ -65,9 +65,7 @@ fn by_sign(n: i64, below: i32, above: i32) -> i64
 
 // The least window coordinate of all places with a clip coordinate in `x` and w in `w`.
 fn least_place(origin: i32, size: i32, x: Ends, w: Ends) -> i64
-    requires size { Within (2 ^ 16) size }
-    requires above { pos 0 <ℤ w.least }
-    requires w_ordered { IsOrdered (interval_of w) }
+    requires { CanBePlaced size w }
     ensures value { result ≡ (axis_over origin size (interval_of x) (interval_of w)).lo }
     ensures small { Within (2 ^ 52) result }
 {
@@ -77,9 +75,7 @@ fn least_place(origin: i32, size: i32, x: Ends, w: Ends) -> i64
 
 // And the greatest one.
 fn greatest_place(origin: i32, size: i32, x: Ends, w: Ends) -> i64
-    requires size { Within (2 ^ 16) size }
-    requires above { pos 0 <ℤ w.least }
-    requires w_ordered { IsOrdered (interval_of w) }
+    requires { CanBePlaced size w }
     ensures value { result ≡ (axis_over origin size (interval_of x) (interval_of w)).hi }
     ensures small { Within (2 ^ 52) result }
 {
@@ -154,9 +150,7 @@ fn centred(range: Range, least: i64, greatest: i64) -> Range
 
 // The rows or columns of a range whose centres lie between the window coordinates.
 fn amid_places(range: Range, origin: i32, size: i32, x: Ends, w: Ends) -> Range
-    requires size { Within (2 ^ 16) size }
-    requires above { pos 0 <ℤ w.least }
-    requires w_ordered { IsOrdered (interval_of w) }
+    requires { CanBePlaced size w }
     ensures { (p : ℤ) → is_among result p ≡ (is_among range p && is_enclosed (axis_over origin size (interval_of x) (interval_of w)) (centre p)) }
 {
     centred(

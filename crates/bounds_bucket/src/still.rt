@@ -7,7 +7,7 @@ ghost use Rattle.rc_base.specs.Drawing.Cover.{IsInBounds, triangle_area};
 ghost use Rattle.rc_base.specs.Drawing.Kept.{is_shown, three};
 ghost use Rattle.rc_base.specs.Drawing.Triangles.{cut_modes};
 ghost use Rattle.rc_base.specs.Drawing.Window.{axis_of, place_bound};
-ghost use Rattle.bounds_bucket.specs.Still.{AreApart, AreShown, AreWithThree, IsStill, IsWithThree, SpansIfAny, StandsAt};
+ghost use Rattle.bounds_bucket.specs.Still.{AreApart, AreCornersInBounds, AreShown, AreWithThree, IsStill, IsWithThree, SpansIfAny, StandsAt};
 
 use crate::extent::{Ends, Extent};
 use crate::shown::{Shown, is_shown, shown_by};
@@ -159,9 +159,7 @@ fn empty() -> Extent
 }
 
 fn area_of(a: &WindowVertex, b: &WindowVertex, c: &WindowVertex) -> i64
-    requires a { IsInBounds a.now }
-    requires b { IsInBounds b.now }
-    requires c { IsInBounds c.now }
+    requires { AreCornersInBounds a.now b.now c.now }
     ensures { result ≡ triangle_area (three a.now b.now c.now) }
 {
     edge(a, b, i64::from(c.x), i64::from(c.y))
@@ -178,9 +176,7 @@ fn grown(
     c: &WindowVertex,
 ) -> Extent
     requires shown { AreShown state.now shown }
-    requires a { IsInBounds a.now }
-    requires b { IsInBounds b.now }
-    requires c { IsInBounds c.now }
+    requires corners { AreCornersInBounds a.now b.now c.now }
     ensures grown { is_shown state.now (triangle_area (three a.now b.now c.now)) ≡ true → IsWithThree extent a.now b.now c.now result }
     ensures same { is_shown state.now (triangle_area (three a.now b.now c.now)) ≡ false → result ≡ extent }
 {
