@@ -1,5 +1,5 @@
 -- The first tile that an effect goes to.
-use Rattle.std.specs.Prelude.{◌≡◌, ℕ, ◌<◌, true, false, None, Some}
+use Rattle.std.specs.Prelude.{◌≡◌, ℕ, ◌<◌, ◌≤◌, true, false, None, Some}
 use Rattle.rc_base.specs.Orders.Journal.{has}
 use Rattle.rc_base.specs.Cluster.Tiles.{tile_count}
 use Rattle.rc_base.specs.declared.state.Effect.{Effect}
@@ -17,3 +17,8 @@ pub record IsFirst (l : Layout) (s : State) (place : ℕ) (effect : Effect) (p :
   pub met : has p.tiles p.tile ≡ true
   pub before : (t : ℕ) → t < p.tile → has p.tiles t ≡ false
   pub unmade : p.made ≡ None
+
+-- a layout has so many tiles, and they are 32 at most
+pub record IsTileCount (l : Layout) (n : ℕ) : Type 0 where
+  pub count : n ≡ tile_count l
+  pub few : n ≤ 32

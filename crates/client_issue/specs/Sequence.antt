@@ -1,5 +1,5 @@
 -- What a client that has issued some of its commands has still to give.
-use Rattle.std.specs.Prelude.{◌≡◌, ℕ, min, ◌+◌, ◌-◌, ◌<◌, ◌≤◌, ◌^◌, ◌&&◌, Bool, true, false, nat_lt, is_none, List, [], ◌∷◌, ◌++◌, length, map, Option, None, Some, IfNone, IfSome, if◌then◌else◌}
+use Rattle.std.specs.Prelude.{◌≡◌, ℕ, min, ◌+◌, ◌-◌, ◌<◌, ◌≤◌, ◌^◌, ◌&&◌, Bool, true, false, nat_lt, is_none, List, [], ◌∷◌, ◌++◌, length, map, Option, None, Some, Result, IfNone, IfSome, IfOk, OnOk, OnErr, if◌then◌else◌}
 use Rattle.std.specs.List.{flat_map, range_with_len, AllByRecursion}
 use Rattle.std.specs.Option.{option_map_or, ForSome}
 use Rattle.std.specs.Coded.{Unit-prop, le_prop}
@@ -14,6 +14,7 @@ use Rattle.rc_base.specs.Cluster.Looks.{is_pending, looks_at}
 use Rattle.rc_base.specs.Cluster.Parcels.{told, parcels_at, parcels_before}
 use Rattle.rc_base.specs.Cluster.Sending.{Sending, ToTile, ToManager, sent_at, request_of}
 use Rattle.rc_base.specs.declared.command.Command.{Command}
+use Rattle.rc_base.specs.declared.out_of_memory.OutOfMemory.{OutOfMemory}
 use Rattle.rc_base.specs.declared.scene.Decl.{Decl}
 use Rattle.rc_base.specs.declared.scene.Scene.{Scene}
 use Rattle.rc_base.specs.declared.state.Act.{Act}
@@ -177,6 +178,17 @@ pub record IsNextItem (before : Sender) (o : Option Item) (after : Sender) : Typ
   pub tile : IfSome o (IsForTile before.count)
   pub looked : IfSome o (HasLooks (scene_of before) before.layout)
   pub next : IfSome o (IsOfLast (length before.stream) after.issued)
+
+-- the command is issued, unless memory lacks
+pub record IssuesNext (before : Sender) (result : Result (Unit {0}) OutOfMemory) (after : Sender) : Type 0 where
+  pub keeps : KeepsIssuing before after
+  pub issued : OnOk result (HasIssuedNext before after)
+
+-- the next item is given; where memory lacks for it, not all is over
+pub record GivesNext (before : Sender) (result : Result (Option Item) OutOfMemory) (after : Sender) : Type 0 where
+  pub keeps : KeepsIssuing before after
+  pub given : IfOk result (λ o. IsNextItem before o after)
+  pub err : OnErr result (IsOver before → ⊥)
 
 -- ---- a core
 

@@ -1,11 +1,10 @@
 //! The next parcel or request of the command that was issued last.
-ghost use Rattle.std.specs.Prelude.{◌≡◌, ◌≢◌, ℕ, ◌+◌, ◌<◌, ◌≤◌, ◌^◌, ◌==◌, ◌&&◌, not, ◌∷◌, length, IfOk, OnOk, OnErr, IfSome, None, Some};
-ghost use Rattle.rc_base.specs.Cluster.Sending.{ToTile, ToManager};
+ghost use Rattle.std.specs.Prelude.{◌≡◌, ◌≢◌, ℕ, ◌+◌, ◌<◌, ◌^◌, ◌==◌, ◌&&◌, not, ◌∷◌, length, IfOk, OnOk, IfSome, None, Some};
 ghost use Rattle.rc_base.specs.declared.state.ElementValue.{ElementValue};
 ghost use Rattle.parcel_bytes.specs.Spelling.{IsPackable};
 ghost use Rattle.state_update.specs.Knowledge.{HasBoundTexture, IsSettled, Knows, after_sets, pending};
 ghost use Rattle.client_issue.specs.Acts.{act_looks, act_sets, examines};
-ghost use Rattle.client_issue.specs.Sequence.{HasLooks, IsForTile, IsMade, IsNextItem, IsOfLast, IsOver, IsSending, IsSendingWith, KeepsIssuing, left_of, left_with, item_of, scene_of};
+ghost use Rattle.client_issue.specs.Sequence.{GivesNext, HasLooks, IsForTile, IsMade, IsNextItem, IsOfLast, IsSending, IsSendingWith, KeepsIssuing, left_of, left_with, item_of, scene_of};
 
 use crate::acts::next_tile;
 use crate::item::Item;
@@ -162,9 +161,7 @@ impl Sender {
     fn give(&mut self) -> Result<Option<Item>, OutOfMemory>
         requires sending { IsSending self.old }
         requires over { self.old.pending ≡ None → self.old.request ≡ None → self.old.issued ≡ length self.old.stream }
-        ensures keeps { KeepsIssuing self.old self.new }
-        ensures given { IfOk result (λ o. IsNextItem self.old o self.new) }
-        ensures err { OnErr result (IsOver self.old → ⊥) }
+        ensures { GivesNext self.old result self.new }
     {
         match self.pending.take() {
             Some(pending) => Ok(Some(self.give_parcel(pending)?)),
@@ -175,9 +172,7 @@ impl Sender {
     /// The next item of the sequence, while a command gives one.
     pub(crate) fn next(&mut self) -> Result<Option<Item>, OutOfMemory>
         requires { IsSending self.old }
-        ensures keeps { KeepsIssuing self.old self.new }
-        ensures given { IfOk result (λ o. IsNextItem self.old o self.new) }
-        ensures err { OnErr result (IsOver self.old → ⊥) }
+        ensures { GivesNext self.old result self.new }
     {
         'issuing: while self.is_resting() && (self.issued as usize) < self.stream.len() {
             self.issue_next()?;

@@ -1,9 +1,9 @@
 //! Issuing the next command.
-ghost use Rattle.std.specs.Prelude.{◌≡◌, ℕ, ◌+◌, ◌<◌, ◌&&◌, ◌||◌, ◌++◌, false, is_none, slice_index_or, OnOk};
+ghost use Rattle.std.specs.Prelude.{◌≡◌, ℕ, ◌+◌, ◌<◌, ◌&&◌, ◌||◌, ◌++◌, false, is_none, slice_index_or};
 ghost use Rattle.std.specs.Option.{option_to_list};
 ghost use Rattle.std.specs.Vec.{vec_capacity, vec_len};
 ghost use Rattle.rc_base.specs.declared.command.Command.TheVariants as cmd;
-ghost use Rattle.client_issue.specs.Sequence.{HasIssuedNext, KeepsIssuing, MayIssue};
+ghost use Rattle.client_issue.specs.Sequence.{IssuesNext, MayIssue};
 ghost use Rattle.client_issue.specs.Issued.{is_refused, sets_element, wait_in};
 ghost use Rattle.gl_context.specs.Arguments.{HasName};
 ghost use Rattle.state_update.specs.Knowledge.{pending};
@@ -74,8 +74,7 @@ impl Sender {
     fn issue_begin(&mut self, mode: u8) -> Result<(), OutOfMemory>
         requires next { MayIssue self.old }
         requires command { slice_index_or self.old.stream self.old.issued cmd.End ≡ cmd.Begin mode }
-        ensures keeps { KeepsIssuing self.old self.new }
-        ensures issued { OnOk result (HasIssuedNext self.old self.new) }
+        ensures { IssuesNext self.old result self.new }
     {
         streams_go_on_by_issue();
         if !self.context.begin(mode) {
@@ -89,8 +88,7 @@ impl Sender {
     fn issue_end(&mut self) -> Result<(), OutOfMemory>
         requires next { MayIssue self.old }
         requires command { slice_index_or self.old.stream self.old.issued cmd.End ≡ cmd.End }
-        ensures keeps { KeepsIssuing self.old self.new }
-        ensures issued { OnOk result (HasIssuedNext self.old self.new) }
+        ensures { IssuesNext self.old result self.new }
     {
         streams_go_on_by_issue();
         let Some(block) = self.context.end() else {
@@ -114,8 +112,7 @@ impl Sender {
     #[inline(always)]
     pub(crate) fn issue_next(&mut self) -> Result<(), OutOfMemory>
         requires { MayIssue self.old }
-        ensures keeps { KeepsIssuing self.old self.new }
-        ensures issued { OnOk result (HasIssuedNext self.old self.new) }
+        ensures { IssuesNext self.old result self.new }
     {
         streams_go_on_by_issue();
         let place = self.issued;
@@ -138,8 +135,7 @@ impl Sender {
     #[inline(never)]
     fn issue_any(&mut self) -> Result<(), OutOfMemory>
         requires { MayIssue self.old }
-        ensures keeps { KeepsIssuing self.old self.new }
-        ensures issued { OnOk result (HasIssuedNext self.old self.new) }
+        ensures { IssuesNext self.old result self.new }
     {
         commands_have_texels();
         streams_go_on_by_issue();

@@ -1,9 +1,8 @@
 //! Parcels of a command that are still to be made.
-ghost use Rattle.std.specs.Prelude.{◌≡◌, ℕ, ◌<◌, ◌≤◌, MatchOption, MatchResult, Some, false};
-ghost use Rattle.rc_base.specs.Cluster.Tiles.{tile_count};
+ghost use Rattle.std.specs.Prelude.{◌≡◌, ℕ, ◌<◌, MatchOption, MatchResult, Some, false};
 ghost use Rattle.rc_base.specs.declared.state.Effect.{Effect};
 ghost use Rattle.client_issue.specs.Acts.{act_by, asks_of};
-ghost use Rattle.client_issue.specs.First.{IsFirst};
+ghost use Rattle.client_issue.specs.First.{IsFirst, IsTileCount};
 
 use crate::acts::{act_of, next_tile, tiles_of};
 use parcel_bytes::Packed;
@@ -29,8 +28,7 @@ pub(crate) fn first_of(
     place: u32,
     act: Act,
 ) -> Result<Pending, Act>
-    requires count { count ≡ tile_count layout.now }
-    requires few { count ≤ 32 }
+    requires { IsTileCount layout.now count }
     ensures { (effect : Effect) → act_by effect ≡ Some act
         → MatchResult result (IsFirst layout.now state.now place effect) (λ _. (t : ℕ) → t < count → asks_of layout.now state.now effect t ≡ false) }
 {
@@ -57,8 +55,7 @@ pub(crate) fn pending_of(
     place: u32,
     effect: Effect,
 ) -> Option<Pending>
-    requires count { count ≡ tile_count layout.now }
-    requires few { count ≤ 32 }
+    requires { IsTileCount layout.now count }
     ensures { MatchOption result ((t : ℕ) → t < count → asks_of layout.now state.now effect t ≡ false) (IsFirst layout.now state.now place effect) }
 {
     let act = act_of(effect)?;

@@ -11,14 +11,18 @@ give_parcel-requires-clause-sending c =
     with_pending s (Some c.in-Some.pending) c.take.new.self
     (subst (λ (o : Option Pending). IsSendingWith s o) (sym c.take.ensures.value ∙ c.in-Some.is) c.requires.sending)
 
-pub returns-in_ok-give_parcel-in-Some-clause-given : goal.returns-in_ok-give_parcel-in-Some-clause-given
-returns-in_ok-give_parcel-in-Some-clause-given c = record {
-  sending = search rules;
-  left =
-      let s = c.args.self.now in
-      ap (left_with s) (sym c.take.ensures.value ∙ c.in-Some.is) ∙ left_elsewhere s (Some c.in-Some.pending) c.take.new.self ∙ c.in_ok-give_parcel-in-Some.ensures.left;
-  all = search rules;
-  tile = search rules;
-  looked = search rules;
-  next = search rules;
+pub returns-in_ok-give_parcel-in-Some : goal.returns-in_ok-give_parcel-in-Some
+returns-in_ok-give_parcel-in-Some c = record {
+  keeps = search rules;
+  given = record {
+    sending = search rules;
+    left =
+        let s = c.args.self.now in
+        ap (left_with s) (sym c.take.ensures.value ∙ c.in-Some.is) ∙ left_elsewhere s (Some c.in-Some.pending) c.take.new.self ∙ c.in_ok-give_parcel-in-Some.ensures.left;
+    all = search rules;
+    tile = search rules;
+    looked = search rules;
+    next = search rules;
+  };
+  err = search rules;
 }

@@ -76,39 +76,39 @@ left c =
     ap (λ (w : Option WaitAt). left_of (record c.args.self.now { context = c.issue.new.self; tracker = c.note.new.tracker; issued = c.args.self.now.issued + 1; pending = c.pending_of.result; request = w; ops = c.add.new.ops })) c.wait_of-wait.ensures
     ∙ issued_left c.args.self.now c.deref-command.result.now c.issue.new.self c.in_ok-effect.effect c.pending_of.result c.add.new.ops c.note.new.tracker c.requires.pending c.requires.request (facts c)
 
-pub returns-clause-issued : goal.returns-clause-issued
-returns-clause-issued c = record {
-  sending =
-      let held = sending (goal.at.returns-clause-issued c).After-pending_of in
-      elim c.match-stored-3.branch [
-        | in-Owned+in-TexImage-2 w ↦ subst (λ (t : Sender). IsSendingWith t t.pending) (sym w.self-is) held
-        | in-Owned+in-TexPart-2 w ↦ subst (λ (t : Sender). IsSendingWith t t.pending) (sym w.self-is) held
-        | in-Owned+in-SharedImage-2 w ↦ subst (λ (t : Sender). IsSendingWith t t.pending) (sym w.self-is) held
-        | in-Owned+in-Begin-2 w ↦ subst (λ (t : Sender). IsSendingWith t t.pending) (sym w.self-is) held
-        | in-Borrowed-2 w ↦ subst (λ (t : Sender). IsSendingWith t t.pending) (sym w.self-is) held
-      ];
-  left =
-      let same = left (goal.at.returns-clause-issued c).After-pending_of in
-      elim c.match-stored-3.branch [
-        | in-Owned+in-TexImage-2 w ↦ ap left_of w.self-is ∙ same
-        | in-Owned+in-TexPart-2 w ↦ ap left_of w.self-is ∙ same
-        | in-Owned+in-SharedImage-2 w ↦ ap left_of w.self-is ∙ same
-        | in-Owned+in-Begin-2 w ↦ ap left_of w.self-is ∙ same
-        | in-Borrowed-2 w ↦ ap left_of w.self-is ∙ same
-      ];
-  issued = search rules;
-}
-
-pub returns-clause-keeps : goal.returns-clause-keeps
-returns-clause-keeps c = record {
-  same = search rules;
-  issuing =
-      let held = issuing_of (later (goal.at.returns-clause-keeps c).After-pending_of) _ (sending (goal.at.returns-clause-keeps c).After-pending_of) in
-      elim c.match-stored-3.branch [
-        | in-Owned+in-TexImage-2 w ↦ subst IsIssuing (sym w.self-is) held
-        | in-Owned+in-TexPart-2 w ↦ subst IsIssuing (sym w.self-is) held
-        | in-Owned+in-SharedImage-2 w ↦ subst IsIssuing (sym w.self-is) held
-        | in-Owned+in-Begin-2 w ↦ subst IsIssuing (sym w.self-is) held
-        | in-Borrowed-2 w ↦ subst IsIssuing (sym w.self-is) held
-      ];
+pub returns : goal.returns
+returns c = record {
+  keeps = record {
+    same = search rules;
+    issuing =
+        let held = issuing_of (later (goal.at.returns c).After-pending_of) _ (sending (goal.at.returns c).After-pending_of) in
+        elim c.match-stored-3.branch [
+          | in-Owned+in-TexImage-2 w ↦ subst IsIssuing (sym w.self-is) held
+          | in-Owned+in-TexPart-2 w ↦ subst IsIssuing (sym w.self-is) held
+          | in-Owned+in-SharedImage-2 w ↦ subst IsIssuing (sym w.self-is) held
+          | in-Owned+in-Begin-2 w ↦ subst IsIssuing (sym w.self-is) held
+          | in-Borrowed-2 w ↦ subst IsIssuing (sym w.self-is) held
+        ];
+  };
+  issued = record {
+    sending =
+        let held = sending (goal.at.returns c).After-pending_of in
+        elim c.match-stored-3.branch [
+          | in-Owned+in-TexImage-2 w ↦ subst (λ (t : Sender). IsSendingWith t t.pending) (sym w.self-is) held
+          | in-Owned+in-TexPart-2 w ↦ subst (λ (t : Sender). IsSendingWith t t.pending) (sym w.self-is) held
+          | in-Owned+in-SharedImage-2 w ↦ subst (λ (t : Sender). IsSendingWith t t.pending) (sym w.self-is) held
+          | in-Owned+in-Begin-2 w ↦ subst (λ (t : Sender). IsSendingWith t t.pending) (sym w.self-is) held
+          | in-Borrowed-2 w ↦ subst (λ (t : Sender). IsSendingWith t t.pending) (sym w.self-is) held
+        ];
+    left =
+        let same = left (goal.at.returns c).After-pending_of in
+        elim c.match-stored-3.branch [
+          | in-Owned+in-TexImage-2 w ↦ ap left_of w.self-is ∙ same
+          | in-Owned+in-TexPart-2 w ↦ ap left_of w.self-is ∙ same
+          | in-Owned+in-SharedImage-2 w ↦ ap left_of w.self-is ∙ same
+          | in-Owned+in-Begin-2 w ↦ ap left_of w.self-is ∙ same
+          | in-Borrowed-2 w ↦ ap left_of w.self-is ∙ same
+        ];
+    issued = search rules;
+  };
 }

@@ -41,45 +41,45 @@ unseen c none = record {
   pending = λ t lt. ap (λ (y : State). asks_of c.args.self.now.layout y (eff.Block c.in-Some.block) t) (sym c.state.ensures) ∙ none t lt;
 }
 
-pub returns-clause-issued : goal.returns-clause-issued
-returns-clause-issued c = record {
-  sending =
-      let s = c.args.self.now in
-      let at = (goal.at.returns-clause-issued c).After-first_of in
-      let b = c.in-Some.block in
-      let x = c.end.new.self in
-      elim c.match-first_of.branch [
-        | in-Ok+in-Some+in-Some-self-3 w ↦ subst (λ (t : Sender). IsSendingWith (record t { issued = t.issued + 1 }) t.pending) (sym w.self-is) (ended_sending s b x (Some w.in-Ok.pending) (seen at w.in-Ok.pending (w.in-Ok.ensures (eff.Block b) refl)))
-        | in-Ok+in-Some+in-None-1 w ↦ subst (λ (t : Sender). IsSendingWith (record t { issued = t.issued + 1 }) t.pending) (sym w.self-is) (ended_sending s b x (Some w.in-Ok.pending) (seen at w.in-Ok.pending (w.in-Ok.ensures (eff.Block b) refl)))
-        | in-Ok+in-None-1 w ↦ subst (λ (t : Sender). IsSendingWith (record t { issued = t.issued + 1 }) t.pending) (sym w.self-is) (ended_sending s b x (Some w.in-Ok.pending) (seen at w.in-Ok.pending (w.in-Ok.ensures (eff.Block b) refl)))
-        | in-Err w ↦ subst (λ (t : Sender). IsSendingWith (record t { issued = t.issued + 1 }) t.pending) (sym (w.self-is ∙ w.take_back.ensures)) (unseen_sending s b x (unseen at (w.in-Err.ensures (eff.Block b) refl)))
-      ];
-  left =
-      let s = c.args.self.now in
-      let at = (goal.at.returns-clause-issued c).After-first_of in
-      let b = c.in-Some.block in
-      let x = c.end.new.self in
-      elim c.match-first_of.branch [
-        | in-Ok+in-Some+in-Some-self-3 w ↦ ap (λ (t : Sender). left_of (record t { issued = t.issued + 1 })) w.self-is ∙ (ended_left s b x (Some w.in-Ok.pending) (seen at w.in-Ok.pending (w.in-Ok.ensures (eff.Block b) refl)))
-        | in-Ok+in-Some+in-None-1 w ↦ ap (λ (t : Sender). left_of (record t { issued = t.issued + 1 })) w.self-is ∙ (ended_left s b x (Some w.in-Ok.pending) (seen at w.in-Ok.pending (w.in-Ok.ensures (eff.Block b) refl)))
-        | in-Ok+in-None-1 w ↦ ap (λ (t : Sender). left_of (record t { issued = t.issued + 1 })) w.self-is ∙ (ended_left s b x (Some w.in-Ok.pending) (seen at w.in-Ok.pending (w.in-Ok.ensures (eff.Block b) refl)))
-        | in-Err w ↦ ap (λ (t : Sender). left_of (record t { issued = t.issued + 1 })) (w.self-is ∙ w.take_back.ensures) ∙ (unseen_left s b x (unseen at (w.in-Err.ensures (eff.Block b) refl)))
-      ];
-  issued = search rules;
-}
-
-pub returns-clause-keeps : goal.returns-clause-keeps
-returns-clause-keeps c = record {
-  same = search rules;
-  issuing =
-      let s = c.args.self.now in
-      let at = (goal.at.returns-clause-keeps c).After-first_of in
-      let b = c.in-Some.block in
-      let x = c.end.new.self in
-      elim c.match-first_of.branch [
-        | in-Ok+in-Some+in-Some-self-3 w ↦ subst (λ (t : Sender). IsIssuing (record t { issued = t.issued + 1 })) (sym w.self-is) (issuing_of (ended s x (Some w.in-Ok.pending)) _ (ended_sending s b x (Some w.in-Ok.pending) (seen at w.in-Ok.pending (w.in-Ok.ensures (eff.Block b) refl))))
-        | in-Ok+in-Some+in-None-1 w ↦ subst (λ (t : Sender). IsIssuing (record t { issued = t.issued + 1 })) (sym w.self-is) (issuing_of (ended s x (Some w.in-Ok.pending)) _ (ended_sending s b x (Some w.in-Ok.pending) (seen at w.in-Ok.pending (w.in-Ok.ensures (eff.Block b) refl))))
-        | in-Ok+in-None-1 w ↦ subst (λ (t : Sender). IsIssuing (record t { issued = t.issued + 1 })) (sym w.self-is) (issuing_of (ended s x (Some w.in-Ok.pending)) _ (ended_sending s b x (Some w.in-Ok.pending) (seen at w.in-Ok.pending (w.in-Ok.ensures (eff.Block b) refl))))
-        | in-Err w ↦ subst (λ (t : Sender). IsIssuing (record t { issued = t.issued + 1 })) (sym (w.self-is ∙ w.take_back.ensures)) (issuing_of (record s { context = x; issued = s.issued + 1 }) _ (unseen_sending s b x (unseen at (w.in-Err.ensures (eff.Block b) refl))))
-      ];
+pub returns : goal.returns
+returns c = record {
+  keeps = record {
+    same = search rules;
+    issuing =
+        let s = c.args.self.now in
+        let at = (goal.at.returns c).After-first_of in
+        let b = c.in-Some.block in
+        let x = c.end.new.self in
+        elim c.match-first_of.branch [
+          | in-Ok+in-Some+in-Some-self-3 w ↦ subst (λ (t : Sender). IsIssuing (record t { issued = t.issued + 1 })) (sym w.self-is) (issuing_of (ended s x (Some w.in-Ok.pending)) _ (ended_sending s b x (Some w.in-Ok.pending) (seen at w.in-Ok.pending (w.in-Ok.ensures (eff.Block b) refl))))
+          | in-Ok+in-Some+in-None-1 w ↦ subst (λ (t : Sender). IsIssuing (record t { issued = t.issued + 1 })) (sym w.self-is) (issuing_of (ended s x (Some w.in-Ok.pending)) _ (ended_sending s b x (Some w.in-Ok.pending) (seen at w.in-Ok.pending (w.in-Ok.ensures (eff.Block b) refl))))
+          | in-Ok+in-None-1 w ↦ subst (λ (t : Sender). IsIssuing (record t { issued = t.issued + 1 })) (sym w.self-is) (issuing_of (ended s x (Some w.in-Ok.pending)) _ (ended_sending s b x (Some w.in-Ok.pending) (seen at w.in-Ok.pending (w.in-Ok.ensures (eff.Block b) refl))))
+          | in-Err w ↦ subst (λ (t : Sender). IsIssuing (record t { issued = t.issued + 1 })) (sym (w.self-is ∙ w.take_back.ensures)) (issuing_of (record s { context = x; issued = s.issued + 1 }) _ (unseen_sending s b x (unseen at (w.in-Err.ensures (eff.Block b) refl))))
+        ];
+  };
+  issued = record {
+    sending =
+        let s = c.args.self.now in
+        let at = (goal.at.returns c).After-first_of in
+        let b = c.in-Some.block in
+        let x = c.end.new.self in
+        elim c.match-first_of.branch [
+          | in-Ok+in-Some+in-Some-self-3 w ↦ subst (λ (t : Sender). IsSendingWith (record t { issued = t.issued + 1 }) t.pending) (sym w.self-is) (ended_sending s b x (Some w.in-Ok.pending) (seen at w.in-Ok.pending (w.in-Ok.ensures (eff.Block b) refl)))
+          | in-Ok+in-Some+in-None-1 w ↦ subst (λ (t : Sender). IsSendingWith (record t { issued = t.issued + 1 }) t.pending) (sym w.self-is) (ended_sending s b x (Some w.in-Ok.pending) (seen at w.in-Ok.pending (w.in-Ok.ensures (eff.Block b) refl)))
+          | in-Ok+in-None-1 w ↦ subst (λ (t : Sender). IsSendingWith (record t { issued = t.issued + 1 }) t.pending) (sym w.self-is) (ended_sending s b x (Some w.in-Ok.pending) (seen at w.in-Ok.pending (w.in-Ok.ensures (eff.Block b) refl)))
+          | in-Err w ↦ subst (λ (t : Sender). IsSendingWith (record t { issued = t.issued + 1 }) t.pending) (sym (w.self-is ∙ w.take_back.ensures)) (unseen_sending s b x (unseen at (w.in-Err.ensures (eff.Block b) refl)))
+        ];
+    left =
+        let s = c.args.self.now in
+        let at = (goal.at.returns c).After-first_of in
+        let b = c.in-Some.block in
+        let x = c.end.new.self in
+        elim c.match-first_of.branch [
+          | in-Ok+in-Some+in-Some-self-3 w ↦ ap (λ (t : Sender). left_of (record t { issued = t.issued + 1 })) w.self-is ∙ (ended_left s b x (Some w.in-Ok.pending) (seen at w.in-Ok.pending (w.in-Ok.ensures (eff.Block b) refl)))
+          | in-Ok+in-Some+in-None-1 w ↦ ap (λ (t : Sender). left_of (record t { issued = t.issued + 1 })) w.self-is ∙ (ended_left s b x (Some w.in-Ok.pending) (seen at w.in-Ok.pending (w.in-Ok.ensures (eff.Block b) refl)))
+          | in-Ok+in-None-1 w ↦ ap (λ (t : Sender). left_of (record t { issued = t.issued + 1 })) w.self-is ∙ (ended_left s b x (Some w.in-Ok.pending) (seen at w.in-Ok.pending (w.in-Ok.ensures (eff.Block b) refl)))
+          | in-Err w ↦ ap (λ (t : Sender). left_of (record t { issued = t.issued + 1 })) (w.self-is ∙ w.take_back.ensures) ∙ (unseen_left s b x (unseen at (w.in-Err.ensures (eff.Block b) refl)))
+        ];
+    issued = search rules;
+  };
 }
