@@ -15,7 +15,6 @@ use Rattle.draw_device.specs.Conditions.{shared_of}
 use Rattle.draw_device.specs.Devices.{pixel_index, pixel_of, rect_size}
 use Rattle.order_model.specs.Board.{Kept, Board}
 use Rattle.tile_model.specs.Acts.{is_draw}
-use Rattle.tile_model.specs.Boards.{IsCarriedOut}
 use Rattle.tile_model.specs.Givable.{is_givable}
 use Rattle.tile_server.specs.declared.canvas.Canvas.{Canvas}
 use Rattle.tile_server.specs.Kepts.{kept_of}
@@ -66,11 +65,6 @@ is_plain parcel = length parcel.sets == 0 && is_draw parcel.act
 -- a scene with the canvas' declaration can give the parcel
 abbrev pub may_come : Canvas → Parcel → Bool
 may_come canvas parcel = is_givable canvas.decl parcel
-
--- what the client's parcel asks of the canvas' tile is carried out on its board
-abbrev pub IsDoneOn : Canvas → ℕ → Parcel → Canvas → Type 0
-IsDoneOn canvas client parcel later =
-    IsCarriedOut canvas.decl canvas.layout client canvas.tile parcel (board_on canvas) (board_on later)
 
 -- The part has a board's pixels of its tile, row by row from the lowest, each row from the left.
 pub record IsPartOf (l : Layout) (this_tile this_frame : ℕ) (b : Board) (part : TilePart) : Type 0 where

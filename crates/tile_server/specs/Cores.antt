@@ -13,7 +13,7 @@ use Rattle.tile_model.specs.Boards.{IsDrawn}
 use Rattle.tile_model.specs.Items.{shown_frames}
 use Rattle.tile_server.specs.Boards.{IsPartOf}
 use Rattle.tile_server.specs.LazyBoards.{board_in}
-use Rattle.tile_server.specs.Deeds.{is_wait, item_of, is_loss, next_after, progress_after, IsNextDeed, IsFoundEmpty, IsUnheard, granted_of, taken_of}
+use Rattle.tile_server.specs.Deeds.{item_of, is_loss, next_after, progress_after, IsNextDeed, IsFoundEmpty, IsUnheard, granted_of, taken_of}
 use Rattle.tile_server.specs.Ledgers.{IsLedgerOf}
 use Rattle.order_model.specs.declared.record.LogEntry.{LogEntry}
 use Rattle.tile_server.specs.declared.deed.Taking.{Taking}
@@ -101,15 +101,7 @@ pub record IsSameView (core later : TileCore) : Type 0 where
 abbrev pub BecameShort : TileCore → TileCore → Type 0
 BecameShort core later = (is_short core ≡ false) × (is_short later ≡ true)
 
--- whatever operation of the client the parcel that is taken has, the step is this
-abbrev pub TakesOperation : TileCore → ℕ → Taking → TileCore → Type 0
-TakesOperation core client how later = (parcel : Parcel) → is_wait parcel.act ≡ true → IsTileStep core (Takes client parcel how) later
-
--- where it is the client's End
-abbrev pub TakesEnd : TileCore → ℕ → Taking → TileCore → Type 0
-TakesEnd core client how later = (parcel : Parcel) → is_end parcel.act ≡ true → IsTileStep core (Takes client parcel how) later
-
--- where it is any but the End
+-- whatever parcel of the client is taken, but its End, the step is this
 abbrev pub TakesMore : TileCore → ℕ → Taking → TileCore → Type 0
 TakesMore core client how later = (parcel : Parcel) → is_end parcel.act ≡ false → IsTileStep core (Takes client parcel how) later
 
@@ -155,3 +147,11 @@ module _ {J : Type 0} (lane_of : J → List ℕ) (gave : J → Grant → J → T
     pub lane : lane_of after ≡ lane_of before
     pub heard : IsHeard gave same deed before after
     pub unheard : CountsUnheard empty_seen bare core deed before after
+
+module _ {I : Type 0} (lane_of : I → List ℕ) (gave : I → Parcel → I → Type 0) (same : I → I → Type 0) (empty_seen : I → ℕ) (bare : I → Type 0) where
+  module _ {J : Type 0} (lane_of_grants : J → List ℕ) (granted : J → Grant → J → Type 0) (same_grants : J → J → Type 0) (unheard_of : J → ℕ) (bare_of_grants : J → Type 0) where
+    -- a step, and what it makes of all lanes
+    pub record IsTileAct (core : TileCore) (deed : TileDeed) (later : TileCore) (before after : List I) (earlier behind : J) : Type 0 where
+      pub step : IsTileStep core deed later
+      pub clients : AreServed lane_of gave same empty_seen bare core deed before after
+      pub grants : IsHeardFrom lane_of_grants granted same_grants unheard_of bare_of_grants core deed earlier behind

@@ -41,10 +41,6 @@ pub record AreSomeValues (sets : List ElementSet) : Type 0 where
   pub decl : Decl
   pub are : list_all (is_set_value decl) sets ≡ true
 
--- with each declaration by which these sets are values, what was fit is fit still
-abbrev pub StaysFit : List ElementSet → Kept → Kept → Type 0
-StaysFit sets before after = (d : Decl) → list_all (is_set_value d) sets ≡ true → IsFit d before → IsFit d after
-
 -- a set of the element to the value was made in the images of the private textures
 pub record HasImage (element : ℕ) (value : ElementValue) (before now : List (Option Picture)) : Type 0 where
   pub images : (name : ℕ) → 0 < name

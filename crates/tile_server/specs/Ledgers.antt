@@ -1,5 +1,5 @@
 -- What a ledger stands for, and what is made of it.
-use Rattle.std.specs.Prelude.{◌≡◌, ℕ, ◌+◌, ◌<◌, Bool, true, false, cond, List, Option, Some, None, is_none, length, slice_get, slice_index_or}
+use Rattle.std.specs.Prelude.{◌≡◌, ℕ, ◌+◌, Bool, true, false, cond, List, Option, Some, None, is_none, length, slice_get, slice_index_or}
 use Rattle.rc_base.specs.Orders.Journal.{is_member}
 use Rattle.rc_base.specs.declared.sync.Entry.{Entry}
 use Rattle.order_model.specs.Standing.{Progress, performed_in}
@@ -64,32 +64,10 @@ LacksSome held members = (client : ℕ) × (members client ≡ true) × (slice_i
 abbrev pub HoldsAll : List Bool → ℕ → Entry → Type 0
 HoldsAll held clients e = HoldsEach held (is_member clients e)
 
--- a member of the entry isn't held
-abbrev pub LacksOne : List Bool → ℕ → Entry → Type 0
-LacksOne held clients e = LacksSome held (is_member clients e)
-
 -- the members of the entry are held no more, and all others as before
 abbrev pub AreReleased : ℕ → Entry → List Bool → List Bool → Type 0
 AreReleased clients e before after =
     (client : ℕ) → slice_index_or after client false ≡ cond (is_member clients e client) false (slice_index_or before client false)
-
--- the entry is known, and each of its members is held
-abbrev pub IsDueBy : Ledger → Entry → Type 0
-IsDueBy ledger e = (ledger.known ≡ Some e) × HoldsAll ledger.held ledger.clients e
-
--- of no entry is it so
-abbrev pub NothingIsDueBy : Ledger → Type 0
-NothingIsDueBy ledger = (e : Entry) → ledger.known ≡ Some e → HoldsAll ledger.held ledger.clients e → ⊥
-
--- ---- who is closed
-
--- the End of each client was taken
-abbrev pub AreAllClosed : Ledger → Type 0
-AreAllClosed ledger = (client : ℕ) → client < ledger.clients → closed_in ledger client ≡ true
-
--- the End of a client wasn't taken
-abbrev pub IsOneOpen : Ledger → Type 0
-IsOneOpen ledger = (client : ℕ) × (client < ledger.clients) × (closed_in ledger client ≡ false)
 
 -- ---- the same ledger
 

@@ -1,6 +1,7 @@
 -- What a tile's core does next, by what it stores.
-use Rattle.std.specs.Prelude.{◌≡◌, ℕ, ◌+◌, ◌<◌, ◌&&◌, ◌||◌, not, min, Bool, true, false, cond, List, Some, None, is_none, slice_index_or}
+use Rattle.std.specs.Prelude.{◌≡◌, ℕ, ◌+◌, ◌<◌, ◌&&◌, ◌||◌, not, min, Bool, true, false, cond, Result, Some, None, is_none, OnOk, OnErr}
 use Rattle.rc_base.specs.declared.cluster.TilePart.{TilePart}
+use Rattle.rc_base.specs.declared.out_of_memory.OutOfMemory.{OutOfMemory}
 use Rattle.rc_base.specs.declared.state.Parcel.{Parcel}
 use Rattle.rc_base.specs.declared.sync.Entry.{Entry}
 use Rattle.order_model.specs.Standing.{Progress}
@@ -10,7 +11,7 @@ use Rattle.tile_model.specs.Items.{after_work}
 use Rattle.tile_server.specs.Boards.{IsPartOf, IsSameTile}
 use Rattle.tile_server.specs.Cores.{board_of, clients_of, decl_of, layout_of, tile_of, IsTileStep}
 use Rattle.tile_server.specs.Deeds.{granted_of, taken_of, IsFoundEmpty, IsUnheard}
-use Rattle.tile_server.specs.Ledgers.{closed_in, held_in, is_over_in, HoldsAll, IsLedgerStep}
+use Rattle.tile_server.specs.Ledgers.{closed_in, held_in, is_over_in, HoldsAll, IsLedgerStep, IsSameLedger}
 use Rattle.tile_server.specs.declared.deed.TileDeed.{TileDeed}
 use Rattle.tile_server.specs.declared.tile_core.TileCore.{TileCore}
 
@@ -39,8 +40,6 @@ asks_in core client =
     (not (closed_in core.ledger client) && (not (held_in core.ledger client) || is_over_in core.ledger))
 
 -- these tell of each client whether it takes from it
-abbrev pub AreAsked : TileCore → List Bool → Type 0
-AreAsked core asks = (client : ℕ) → client < clients_of core → slice_index_or asks client true ≡ asks_in core client
 
 -- a parcel of the client may be taken
 pub record MayTakeIn (core : TileCore) (client : ℕ) : Type 0 where
@@ -84,6 +83,12 @@ pub record IsAlike (core later : TileCore) : Type 0 where
   pub next : later.next ≡ core.next
   pub frames : later.frames ≡ core.frames
   pub short : later.short ≡ core.short
+
+-- that is done, where memory doesn't lack for its log; else its ledger is the same
+pub record WorkIsTried (core : TileCore) (client : ℕ) (parcel : Parcel) (tried : Result (Unit {0}) OutOfMemory) (later : TileCore) : Type 0 where
+  pub alike : IsAlike core later
+  pub worked : OnOk tried (IsWorked core client parcel later)
+  pub ledger : OnErr tried (IsSameLedger core.ledger later.ledger)
 
 -- ---- lanes
 

@@ -40,10 +40,6 @@ texels_in set name = (shared_of set name).texels
 abbrev pub IsBlankIn : Rect → DeviceView → Type 0
 IsBlankIn r device = (x y : ℤ) → is_in_rect r x y ≡ true → pixel_of device x y ≡ blank_pixel
 
--- each pixel of the tile is blank
-abbrev pub IsBlankTile : Layout → ℕ → DeviceView → Type 0
-IsBlankTile l tile device = (x y : ℕ) → tile_pixels l tile x y ≡ true → pixel_of device (pos x) (pos y) ≡ blank_pixel
-
 -- ---- work
 
 -- a part that the effect writes to a shared texture can be stored there

@@ -1,7 +1,9 @@
 //! What a new canvas is made of.
-ghost use Rattle.std.specs.Prelude.{◌≡◌, ◌<◌, IfOk};
-ghost use Rattle.rc_base.specs.Cluster.Tiles.{tile_count};
-ghost use Rattle.tile_server.specs.Works.{AreNew, IsBlankIn, IsBlankTile, IsRectOf, LiesInWindow};
+ghost use Rattle.std.specs.Prelude.{◌≡◌, ℕ, ◌<◌, true, pos, IfOk};
+ghost use Rattle.rc_base.specs.Cluster.Tiles.{tile_count, tile_pixels};
+ghost use Rattle.rc_base.specs.Drawing.Serial.{blank_pixel};
+ghost use Rattle.draw_device.specs.Devices.{pixel_of};
+ghost use Rattle.tile_server.specs.Works.{AreNew, IsBlankIn, IsRectOf, LiesInWindow};
 
 use crate::kept::KeptClient;
 use bounds_bucket::tile_rect;
@@ -47,7 +49,8 @@ pub(crate) fn blank_device(
 ) -> Result<LazyDevice, OutOfMemory>
     requires { tile < tile_count layout.now }
     ensures rect { IfOk result (λ d. IsRectOf layout.now tile d.rect) }
-    ensures blank { IfOk result (IsBlankTile layout.now tile) }
+    ensures blank { IfOk result (λ d. (x y : ℕ) → tile_pixels layout.now tile x y ≡ true
+        → pixel_of d (pos x) (pos y) ≡ blank_pixel) }
 {
     device_in(alloc, layout.width, layout.height, tile_rect(layout, tile))
 }

@@ -46,8 +46,8 @@ impl Canvas {
     ghost use Rattle.std.specs.Prelude.{◌≡◌, ◌<◌, true, false, IfOk};
     ghost use Rattle.rc_base.specs.Cluster.Tiles.{tile_count};
     ghost use Rattle.tile_model.specs.Acts.{is_draw, is_work};
-    ghost use Rattle.tile_model.specs.Boards.{IsNewBoard};
-    ghost use Rattle.tile_server.specs.Boards.{board_on, canvas_clients, drawn_pixel, may_come, IsDoneOn, IsPartOf, IsSameTile, KeepsAll};
+    ghost use Rattle.tile_model.specs.Boards.{IsCarriedOut, IsNewBoard};
+    ghost use Rattle.tile_server.specs.Boards.{board_on, canvas_clients, drawn_pixel, may_come, IsPartOf, IsSameTile, KeepsAll};
     ghost use Rattle.draw_device.specs.Devices.{EachTakes};
 
     /// The canvas of a tile that was sent nothing yet.
@@ -86,7 +86,8 @@ impl Canvas {
         requires client { client < canvas_clients self.old }
         requires work { is_work parcel.act ≡ true }
         ensures same { IsSameTile self.old self.new }
-        ensures done { may_come self.old parcel ≡ true → IsDoneOn self.old client parcel self.new }
+        ensures done { may_come self.old parcel ≡ true → IsCarriedOut self.old.decl self.old.layout
+            client self.old.tile parcel (board_on self.old) (board_on self.new) }
         ensures ignored { may_come self.old parcel ≡ false → board_on self.new ≡ board_on self.old }
     {
         sets_have_stored_texels();

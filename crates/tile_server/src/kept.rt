@@ -15,9 +15,11 @@ pub struct KeptClient {
 }
 
 impl KeptClient {
-    ghost use Rattle.std.specs.Prelude.{◌∷◌, []};
+    ghost use Rattle.std.specs.Prelude.{◌≡◌, ◌∷◌, [], true};
+    ghost use Rattle.std.specs.List.{list_all};
+    ghost use Rattle.rc_base.specs.declared.scene.Decl.{Decl};
     ghost use Rattle.tile_model.specs.Boards.{HasSets};
-    ghost use Rattle.tile_server.specs.Kepts.{kept_of, AreSomeValues, IsSomeValue, StaysFit};
+    ghost use Rattle.tile_server.specs.Kepts.{is_set_value, kept_of, AreSomeValues, IsFit, IsSomeValue};
 
     // Makes one set. An image's texels are moved.
     fn apply(&mut self, set: ElementSet)
@@ -32,7 +34,8 @@ impl KeptClient {
     pub(crate) fn apply_all(&mut self, sets: Sets)
         requires { AreSomeValues sets }
         ensures made { HasSets sets (kept_of self.old) (kept_of self.new) }
-        ensures fit { StaysFit sets (kept_of self.old) (kept_of self.new) }
+        ensures fit { (d : Decl) → list_all (is_set_value d) sets ≡ true
+            → IsFit d (kept_of self.old) → IsFit d (kept_of self.new) }
     {
         for set in sets.into_vec() {
             self.apply(set);

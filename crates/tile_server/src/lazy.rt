@@ -27,8 +27,8 @@ impl LazyCanvas {
     ghost use Rattle.rc_base.specs.Cluster.Tiles.{tile_count};
     ghost use Rattle.tile_model.specs.Acts.{is_work};
     ghost use Rattle.tile_model.specs.Boards.{IsNewBoard};
-    ghost use Rattle.tile_server.specs.Boards.{canvas_clients, is_plain, may_come, IsPartOf, IsSameTile};
-    ghost use Rattle.tile_server.specs.LazyBoards.{board_in, IsDoneIn, IsSameBoard};
+    ghost use Rattle.tile_server.specs.Boards.{canvas_clients, may_come, IsPartOf, IsSameTile};
+    ghost use Rattle.tile_server.specs.LazyBoards.{board_in, IsDoneIn, IsSameBoard, MayWait, IsBlockDone};
 
     /// The canvas of a tile that was sent nothing yet.
     pub(crate) fn new(
@@ -86,10 +86,8 @@ impl LazyCanvas {
 
     // Draws the block of a parcel behind all that wait.
     fn draw_now(&mut self, client: u8, parcel: &Packed)
-        requires client { client < canvas_clients self.old.drawn }
-        requires plain { is_plain parcel.now ≡ true }
-        ensures same { IsSameTile self.old.drawn self.new.drawn }
-        ensures done { IsDoneIn self.old client parcel.now self.new }
+        requires { MayWait self.old client parcel.now }
+        ensures { IsBlockDone self.old client parcel.now self.new }
     {
         self.draw_all();
         self.drawn.draw_block(client, parcel);
@@ -97,10 +95,8 @@ impl LazyCanvas {
 
     /// Carries out the parcel of a block without sets: it waits to be drawn, where it has room. Takes no memory.
     pub(crate) fn put_off(&mut self, client: u8, parcel: Packed)
-        requires client { client < canvas_clients self.old.drawn }
-        requires plain { is_plain parcel ≡ true }
-        ensures same { IsSameTile self.old.drawn self.new.drawn }
-        ensures done { IsDoneIn self.old client parcel self.new }
+        requires { MayWait self.old client parcel }
+        ensures { IsBlockDone self.old client parcel self.new }
     {
         let size = parcel.bytes().len();
         self.make_room(size);

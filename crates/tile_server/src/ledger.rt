@@ -1,7 +1,7 @@
 //! How far a tile is: whom it holds and who is closed, the entry that is to be performed, and its log.
 ghost use Rattle.std.specs.Prelude.{◌≡◌, ◌≤◌, ◌<◌, false, length, nat_lt, slice_index_or, IsTrue};
-ghost use Rattle.rc_base.specs.Orders.Journal.{has};
-ghost use Rattle.tile_server.specs.Ledgers.{AreReleased, HoldsAll, HoldsEach, LacksOne, LacksSome};
+ghost use Rattle.rc_base.specs.Orders.Journal.{has, is_member};
+ghost use Rattle.tile_server.specs.Ledgers.{AreReleased, HoldsAll, HoldsEach, LacksSome};
 
 use order_model::record::{Log, LogEntry};
 use rc_base::items::Items;
@@ -21,10 +21,11 @@ pub struct Ledger {
 }
 
 impl Ledger {
-    ghost use Rattle.std.specs.Prelude.{◌≡◌, ◌≤◌, ◌<◌, true, false, cond, is_none, Some, OnOk, OnErr, IfSome, IfNone, IsTrue};
+    ghost use Rattle.std.specs.Prelude.{◌≡◌, ℕ, ◌≤◌, ◌<◌, true, false, cond, is_none, Some, OnOk, OnErr, IfSome, IfNone, IsTrue};
+    ghost use Rattle.rc_base.specs.declared.sync.Entry.{Entry};
     ghost use Rattle.order_model.specs.Standing.{new_progress};
     ghost use Rattle.tile_model.specs.Items.{after_end, after_entry, after_no_more, after_performed, after_wait, after_work};
-    ghost use Rattle.tile_server.specs.Ledgers.{held_in, closed_in, is_over_in, AreAllClosed, IsDueBy, IsLedgerOf, IsOneOpen, IsSameLedger, KeepsUp, KeepsUpShortOrNot, NothingIsDueBy};
+    ghost use Rattle.tile_server.specs.Ledgers.{held_in, closed_in, is_over_in, HoldsAll, IsLedgerOf, IsSameLedger, KeepsUp, KeepsUpShortOrNot};
 
     /// The ledger of a tile that took nothing yet.
     pub fn new(alloc: Global, clients: u8) -> Ledger
@@ -75,8 +76,10 @@ impl Ledger {
     /// Whether the End of each client was taken.
     pub fn all_closed(&self) -> bool
         requires { self.now.clients ≤ 8 }
-        ensures yes { IsTrue result → AreAllClosed self.now }
-        ensures no { result ≡ false → IsOneOpen self.now }
+        ensures yes { IsTrue result
+            → (client : ℕ) → client < self.now.clients → closed_in self.now client ≡ true }
+        ensures no { result ≡ false
+            → (client : ℕ) × (client < self.now.clients) × (closed_in self.now client ≡ false) }
     {
         for client in 0..self.clients {
             if !self.closed[client as usize] {
@@ -110,8 +113,10 @@ impl Ledger {
     /// The entry that is known, if each of its members is held.
     pub fn due(&self) -> Option<Entry>
         requires { self.now.clients ≤ 8 }
-        ensures some { IfSome result (IsDueBy self.now) }
-        ensures none { IfNone result (NothingIsDueBy self.now) }
+        ensures some { IfSome result (λ e. (self.now.known ≡ Some e)
+            × HoldsAll self.now.held self.now.clients e) }
+        ensures none { IfNone result ((e : Entry) → self.now.known ≡ Some e
+            → HoldsAll self.now.held self.now.clients e → ⊥) }
     {
         match self.known {
             Some(entry) => {
@@ -218,7 +223,7 @@ fn holds_one(held: &[bool; 8], client: u8) -> bool
 fn holds_all(held: &[bool; 8], clients: u8, entry: Entry) -> bool
     requires { clients ≤ 8 }
     ensures yes { IsTrue result → HoldsAll held.now clients entry }
-    ensures no { result ≡ false → LacksOne held.now clients entry }
+    ensures no { result ≡ false → LacksSome held.now (is_member clients entry) }
 {
     match entry {
         Entry::Meet { members, .. } => holds_set(held, members),

@@ -34,21 +34,22 @@ pub struct TileCore {
 }
 
 impl TileCore {
-    ghost use Rattle.std.specs.Prelude.{◌≡◌, ◌≢◌, ◌⊎◌, ◌≤◌, ◌<◌, ◌||◌, ◌-◌, nat_lt, cond, not, true, false, None, length, IfOk, OnOk, OnErr, IfSome, IfNone, IsTrue};
+    ghost use Rattle.std.specs.Prelude.{◌≡◌, ◌≢◌, ℕ, ◌⊎◌, ◌≤◌, ◌<◌, ◌||◌, ◌-◌, nat_lt, slice_index_or, cond, not, true, false, None, length, IfOk, OnOk, OnErr, IfSome, IfNone, IsTrue};
     ghost use Rattle.rc_base.specs.Cluster.Tiles.{tile_count};
     ghost use Rattle.rc_base.specs.Cluster.Parcels.{is_end};
     ghost use Rattle.order_model.specs.Standing.{Progress, new_progress};
     ghost use Rattle.tile_model.specs.Acts.{is_work};
     ghost use Rattle.tile_server.specs.Boards.{is_plain};
     ghost use Rattle.tile_model.specs.Boards.{IsNewBoard};
+    ghost use Rattle.rc_base.specs.declared.state.Parcel.{Parcel};
     ghost use Rattle.rc_base.specs.declared.sync.Entry.{Entry};
     ghost use Rattle.rc_base.specs.declared.sync.Entry.TheVariants.{Swap};
     ghost use Rattle.rc_base.specs.declared.sync.Grant.TheVariants as grant;
-    ghost use Rattle.tile_server.specs.Deeds.{granted_of, AnswersDeed};
-    ghost use Rattle.tile_server.specs.Ledgers.{held_in, is_over_in, IsSameLedger};
-    ghost use Rattle.tile_server.specs.Tasks.{asks_in, listens_in, AreAsked, IsAlike, IsDueIn, IsFinishedIn, IsFreeIn, IsInternalStep, IsNextPart, IsWorked, MayLearn, MayTakeIn, NothingIsDueIn};
+    ghost use Rattle.tile_server.specs.Deeds.{granted_of, is_wait, AnswersDeed};
+    ghost use Rattle.tile_server.specs.Ledgers.{held_in, is_over_in};
+    ghost use Rattle.tile_server.specs.Tasks.{asks_in, listens_in, IsDueIn, IsFinishedIn, IsFreeIn, IsInternalStep, IsNextPart, MayLearn, MayTakeIn, NothingIsDueIn, WorkIsTried};
     ghost use Rattle.tile_server.specs.declared.deed.TileDeed.TheVariants as deed;
-    ghost use Rattle.tile_server.specs.Cores.{board_of, clients_of, decl_of, is_short, layout_of, next_of, tile_of, waiting_of, AreFoundEmpty, AreSameLanes, AreServed, AreTaken, BecameShort, CountsUnheard, IsHeard, IsHeardFrom, IsProgressOf, IsSameCore, IsSameView, IsTileStep, TakesEnd, TakesMore, TakesOperation};
+    ghost use Rattle.tile_server.specs.Cores.{board_of, clients_of, decl_of, is_short, layout_of, next_of, tile_of, waiting_of, AreFoundEmpty, AreSameLanes, AreServed, AreTaken, BecameShort, CountsUnheard, IsHeard, IsProgressOf, IsSameCore, IsSameView, IsTileAct, IsTileStep, TakesMore};
 
     /// The core of a tile that was sent nothing yet.
     pub fn new(
@@ -130,7 +131,8 @@ impl TileCore {
 
     /// The clients that parcels are taken of: whom a tile holds counts as long as it isn't short and more may be performed.
     pub fn asked(&self) -> [bool; 8]
-        ensures { AreAsked self.now result }
+        ensures { (client : ℕ) → client < clients_of self.now
+            → slice_index_or result client true ≡ asks_in self.now client }
     {
         let free = self.short || self.ledger.is_over();
         let mut asks = [false; 8];
@@ -267,9 +269,7 @@ impl TileCore {
     fn work(&mut self, client: u8, parcel: Parcel) -> Result<(), OutOfMemory>
         requires client { client < clients_of self.old }
         requires work { is_work parcel.act ≡ true }
-        ensures alike { IsAlike self.old self.new }
-        ensures worked { OnOk result (IsWorked self.old client parcel self.new) }
-        ensures ledger { OnErr result (IsSameLedger self.old.ledger self.new.ledger) }
+        ensures { WorkIsTried self.old client parcel result self.new }
     {
         let place = parcel.place;
         let drawn = self.canvas.carry_out(client, parcel);
@@ -300,9 +300,7 @@ impl TileCore {
     fn put_off(&mut self, client: u8, parcel: &Packed) -> Result<(), OutOfMemory>
         requires client { client < clients_of self.old }
         requires plain { is_plain parcel.now ≡ true }
-        ensures alike { IsAlike self.old self.new }
-        ensures worked { OnOk result (IsWorked self.old client parcel.now self.new) }
-        ensures ledger { OnErr result (IsSameLedger self.old.ledger self.new.ledger) }
+        ensures { WorkIsTried self.old client parcel.now result self.new }
     {
         let copy = parcel.clone()?;
         self.canvas.put_off(client, copy);
@@ -331,7 +329,8 @@ impl TileCore {
     /// The client is held at its operation.
     fn hold(&mut self, client: u8) -> Taking
         requires free { IsFreeIn self.old client }
-        ensures { TakesOperation self.old client result self.new }
+        ensures { (parcel : Parcel) → is_wait parcel.act ≡ true
+            → IsTileStep self.old (deed.Takes client parcel result) self.new }
     {
         self.ledger.hold(client);
         self.next = client + 1;
@@ -378,7 +377,8 @@ impl TileCore {
     /// The client is closed.
     fn close(&mut self, client: u8) -> Taking
         requires { MayTakeIn self.old client }
-        ensures { TakesEnd self.old client result self.new }
+        ensures { (parcel : Parcel) → is_end parcel.act ≡ true
+            → IsTileStep self.old (deed.Takes client parcel result) self.new }
     {
         self.ledger.close(client);
         self.next = client + 1;
@@ -471,11 +471,9 @@ impl TileCore {
     ) -> TileDeed
         requires lanes { length clients.old ≡ clients_of self.old }
         requires learns { MayLearn self.old }
-        ensures step { IsTileStep self.old result self.new }
-        ensures clients { AreServed I.lane_of I.gave I.same I.empty_seen I.bare self.old result
-            clients.old clients.new }
-        ensures grants { IsHeardFrom J.lane_of J.gave J.same J.empty_seen J.bare self.old result
-            grants.old grants.new }
+        ensures { IsTileAct I.lane_of I.gave I.same I.empty_seen I.bare
+            J.lane_of J.gave J.same J.empty_seen J.bare self.old result self.new
+            clients.old clients.new grants.old grants.new }
     {
         match grants.pop() {
             Some(grant) => {
@@ -492,11 +490,9 @@ impl TileCore {
         grants: &mut J,
     ) -> TileDeed
         requires { length clients.old ≡ clients_of self.old }
-        ensures step { IsTileStep self.old result self.new }
-        ensures clients { AreServed I.lane_of I.gave I.same I.empty_seen I.bare self.old result
-            clients.old clients.new }
-        ensures grants { IsHeardFrom J.lane_of J.gave J.same J.empty_seen J.bare self.old result
-            grants.old grants.new }
+        ensures { IsTileAct I.lane_of I.gave I.same I.empty_seen I.bare
+            J.lane_of J.gave J.same J.empty_seen J.bare self.old result self.new
+            clients.old clients.new grants.old grants.new }
     {
         match self.due() {
             Some(entry) => self.perform(entry),

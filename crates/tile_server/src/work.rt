@@ -1,11 +1,11 @@
 //! Drawing, clearing and writing shared textures.
-ghost use Rattle.std.specs.Prelude.{◌≡◌, Some};
+ghost use Rattle.std.specs.Prelude.{◌≡◌};
 ghost use Rattle.rc_base.specs.Cluster.Parcels.{effect_by};
 ghost use Rattle.rc_base.specs.declared.state.Effect.TheVariants as eff;
 ghost use Rattle.geometry.specs.Listed.{listed_block};
-ghost use Rattle.draw_device.specs.Conditions.{IsDrawable, IsClearable};
+ghost use Rattle.draw_device.specs.Conditions.{IsDrawable};
 ghost use Rattle.draw_device.specs.Stored.{set_after};
-ghost use Rattle.tile_server.specs.Switched.{IsStateNow, IsSwitched};
+ghost use Rattle.tile_server.specs.Switched.{CanDrawFor, CanWorkFor, IsStateNow, IsSwitchedOn};
 ghost use Rattle.tile_server.specs.Works.{MayStore, TakesEffect};
 
 use crate::hardware::Hardware;
@@ -32,14 +32,9 @@ fn perform(
     device: &mut LazyDevice,
     shared: &mut SharedSet,
 )
-    requires aimed { hw.old.rect ≡ device.old.rect }
-    requires known { hw.old.of ≡ Some client → hw.old.state ≡ kept.now.state }
-    requires drawable { IsDrawable kept.now.state kept.now.images shared.old }
-    requires clearable { IsClearable kept.now.state }
+    requires ready { CanWorkFor hw.old client kept.now device.old shared.old }
     requires writable { MayStore effect.now shared.old }
-    ensures rect { device.new.rect ≡ device.old.rect }
-    ensures aimed { hw.new.rect ≡ hw.old.rect }
-    ensures switched { IsSwitched client kept.now.state hw.old hw.new }
+    ensures switched { IsSwitchedOn client kept.now.state hw.old hw.new device.old device.new }
     ensures drawn { TakesEffect kept.now shared.old effect.now device.old device.new }
     ensures shared { shared.new ≡ set_after effect.now shared.old }
 {
@@ -59,8 +54,7 @@ pub(crate) fn draw(
     device: &mut LazyDevice,
     shared: &SharedSet,
 )
-    requires aimed { hw.old.rect ≡ device.old.rect }
-    requires known { hw.old.of ≡ Some client → hw.old.state ≡ kept.now.state }
+    requires hardware { CanDrawFor hw.old client kept.now device.old }
     requires drawable { IsDrawable kept.now.state kept.now.images shared.now }
     ensures rect { device.new.rect ≡ device.old.rect }
     ensures aimed { hw.new.rect ≡ hw.old.rect }
@@ -80,14 +74,9 @@ pub(crate) fn work(
     device: &mut LazyDevice,
     shared: &mut SharedSet,
 ) -> Option<Vertices>
-    requires aimed { hw.old.rect ≡ device.old.rect }
-    requires known { hw.old.of ≡ Some client → hw.old.state ≡ kept.now.state }
-    requires drawable { IsDrawable kept.now.state kept.now.images shared.old }
-    requires clearable { IsClearable kept.now.state }
+    requires ready { CanWorkFor hw.old client kept.now device.old shared.old }
     requires writable { MayStore (effect_by act) shared.old }
-    ensures rect { device.new.rect ≡ device.old.rect }
-    ensures aimed { hw.new.rect ≡ hw.old.rect }
-    ensures switched { IsSwitched client kept.now.state hw.old hw.new }
+    ensures switched { IsSwitchedOn client kept.now.state hw.old hw.new device.old device.new }
     ensures drawn { TakesEffect kept.now shared.old (effect_by act) device.old device.new }
     ensures shared { shared.new ≡ set_after (effect_by act) shared.old }
 {

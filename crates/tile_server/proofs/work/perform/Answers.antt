@@ -9,10 +9,10 @@ use Rattle.textures.specs.Images.{texture_image}
 use Rattle.tile_server.proofs.work.perform.Goals as goal
 
 pub returns-in_default-clause-switched : goal.returns-in_default-clause-switched
-returns-in_default-clause-switched c = inl (record { of = refl; state = refl })
+returns-in_default-clause-switched c = record { rect = c.carry_out.ensures.rect; aimed = refl; switched = inl (record { of = refl; state = refl }) }
 
 pub returns-clause-switched : goal.returns-clause-switched
-returns-clause-switched c = inr c.draw.ensures.switched
+returns-clause-switched c = record { rect = c.draw.ensures.rect; aimed = c.draw.ensures.aimed; switched = inr c.draw.ensures.switched }
 
 pub returns-clause-drawn : goal.returns-clause-drawn
 returns-clause-drawn c x y inside =

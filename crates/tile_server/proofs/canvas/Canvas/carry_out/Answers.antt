@@ -18,45 +18,30 @@ use Rattle.tile_server.proofs.DrawnParcels.{act_given, act_writable, are_fit, ca
 use Rattle.tile_server.proofs.Switches.{known_now, switched_on}
 use Rattle.tile_server.proofs.canvas.Canvas.carry_out.Goals as goal
 
-pub work-requires-clause-drawable : goal.work-requires-clause-drawable
-work-requires-clause-drawable c =
-    let canvas = c.args.self.now in
-    let kept = canvas.kept.items in
-    let i = c.from-client.result in
-    let given : is_givable canvas.decl c.args.parcel ≡ true = sym c.is_givable.ensures ∙ c.if-not-is_givable.false in
-    let at = kept_at kept i c.args.client c.index_mut.result.now c.from-client.ensures c.requires.client c.index_mut.ensures.value in
-    let fit : IsFit canvas.decl (kept_of c.apply_all.new.self) =
-    still_fit canvas.decl c.args.parcel kept i c.index_mut.result.now c.apply_all.new.self given at canvas.fit c.apply_all.ensures.fit in
-    let same : c.index.result.now ≡ c.apply_all.new.self = just_set kept i c.index_mut.result.now c.apply_all.new.self c.index.result.now at c.index.ensures in
-    record { texel = texel_sampled canvas.decl (kept_of c.index.result.now) canvas.shared (subst (λ (k : KeptClient). IsFit canvas.decl (kept_of k)) (sym same) fit) canvas.whole }
-
-pub work-requires-clause-clearable : goal.work-requires-clause-clearable
-work-requires-clause-clearable c =
-    let canvas = c.args.self.now in
-    let kept = canvas.kept.items in
-    let i = c.from-client.result in
-    let given : is_givable canvas.decl c.args.parcel ≡ true = sym c.is_givable.ensures ∙ c.if-not-is_givable.false in
-    let at = kept_at kept i c.args.client c.index_mut.result.now c.from-client.ensures c.requires.client c.index_mut.ensures.value in
-    let fit : IsFit canvas.decl (kept_of c.apply_all.new.self) =
-    still_fit canvas.decl c.args.parcel kept i c.index_mut.result.now c.apply_all.new.self given at canvas.fit c.apply_all.ensures.fit in
-    let same : c.index.result.now ≡ c.apply_all.new.self = just_set kept i c.index_mut.result.now c.apply_all.new.self c.index.result.now at c.index.ensures in
-    clearable canvas.decl (kept_of c.index.result.now) (subst (λ (k : KeptClient). IsFit canvas.decl (kept_of k)) (sym same) fit)
-
-pub work-requires-clause-aimed : goal.work-requires-clause-aimed
-work-requires-clause-aimed c = c.expect.ensures.rect ∙ c.args.self.now.aimed
-
-pub work-requires-clause-known : goal.work-requires-clause-known
-work-requires-clause-known c named =
+pub work-requires-clause-ready : goal.work-requires-clause-ready
+work-requires-clause-ready c =
     let canvas = c.args.self.now in
     let kept = canvas.kept.items in
     let i = c.from-client.result in
     let k = c.index_mut.result.now in
     let new = c.apply_all.new.self in
+    let given : is_givable canvas.decl c.args.parcel ≡ true = sym c.is_givable.ensures ∙ c.if-not-is_givable.false in
     let at = kept_at kept i c.args.client k c.from-client.ensures c.requires.client c.index_mut.ensures.value in
-    let same : c.index.result.now ≡ new = just_set kept i k new c.index.result.now at c.index.ensures in
-    known_now kept c.args.client k new c.args.parcel.sets c.are_told-told.result canvas.hw c.expect.new.self (subst (λ (n : ℕ). slice_get kept n ≡ Some k) c.from-client.ensures at) canvas.switched
-    (record { state = c.expect.ensures.state; told_now = c.expect.ensures.told; untold = c.expect.ensures.untold; none = c.are_told-told.ensures }) c.apply_all.ensures.made named
-    ∙ sym (ap (λ (x : KeptClient). x.state) same)
+    let fit : IsFit canvas.decl (kept_of c.apply_all.new.self) =
+    still_fit canvas.decl c.args.parcel kept i c.index_mut.result.now c.apply_all.new.self given at canvas.fit c.apply_all.ensures.fit in
+    let same : c.index.result.now ≡ c.apply_all.new.self = just_set kept i c.index_mut.result.now c.apply_all.new.self c.index.result.now at c.index.ensures in
+    let now = subst (λ (x : KeptClient). IsFit canvas.decl (kept_of x)) (sym same) fit in
+    record {
+      hardware = record {
+        aimed = c.expect.ensures.rect ∙ c.args.self.now.aimed;
+        known = λ named.
+            known_now kept c.args.client k new c.args.parcel.sets c.are_told-told.result canvas.hw c.expect.new.self (subst (λ (n : ℕ). slice_get kept n ≡ Some k) c.from-client.ensures at) canvas.switched
+            (record { state = c.expect.ensures.state; told_now = c.expect.ensures.told; untold = c.expect.ensures.untold; none = c.are_told-told.ensures }) c.apply_all.ensures.made named
+            ∙ sym (ap (λ (x : KeptClient). x.state) same);
+      };
+      drawable = record { texel = texel_sampled canvas.decl (kept_of c.index.result.now) canvas.shared now canvas.whole };
+      clearable = clearable canvas.decl (kept_of c.index.result.now) now;
+    }
 
 pub work-requires-clause-writable : goal.work-requires-clause-writable
 work-requires-clause-writable c part is =
@@ -77,15 +62,15 @@ invariant_of-self-2 c =
     let new = c.apply_all.new.self in
     let same : c.index.result.now ≡ new = just_set kept i k new c.index.result.now at c.index.ensures in
     record {
-      place = subst (λ (r : Rect). IsRectOf canvas.layout canvas.tile r) (sym c.work.ensures.rect) canvas.place;
+      place = subst (λ (r : Rect). IsRectOf canvas.layout canvas.tile r) (sym c.work.ensures.switched.rect) canvas.place;
       whole = subst (λ (v : List (Option Picture)). HasTexels canvas.decl.shared (texels_in v) v) (sym c.work.ensures.shared)
           (whole_after canvas.decl canvas.shared canvas.whole c.sets_have_stored_texels.ensures.written c.args.parcel.act (act_given canvas.decl c.args.parcel given));
       fit = are_fit canvas.decl kept i c.apply_all.new.self canvas.fit fit;
-      aimed = c.work.ensures.aimed ∙ c.expect.ensures.rect ∙ canvas.aimed ∙ sym c.work.ensures.rect;
+      aimed = c.work.ensures.switched.aimed ∙ c.expect.ensures.rect ∙ canvas.aimed ∙ sym c.work.ensures.switched.rect;
       switched = subst (λ (n : ℕ). IsStateOf c.work.new.hw.of c.work.new.hw.state (slice_set kept n new)) (sym c.from-client.ensures)
           (switched_on kept c.args.client k new c.args.parcel.sets c.are_told-told.result canvas.hw c.expect.new.self (subst (λ (n : ℕ). slice_get kept n ≡ Some k) c.from-client.ensures at) canvas.switched
           (record { state = c.expect.ensures.state; told_now = c.expect.ensures.told; untold = c.expect.ensures.untold; none = c.are_told-told.ensures }) c.apply_all.ensures.made c.work.new.hw
-          (subst (λ (x : KeptClient). IsSwitched c.args.client x.state c.expect.new.self c.work.new.hw) same c.work.ensures.switched));
+          (subst (λ (x : KeptClient). IsSwitched c.args.client x.state c.expect.new.self c.work.new.hw) same c.work.ensures.switched.switched));
     }
 
 pub returns-clause-done : goal.returns-clause-done

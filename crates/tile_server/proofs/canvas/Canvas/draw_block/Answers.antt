@@ -20,12 +20,15 @@ use Rattle.tile_server.proofs.PlainBlocks.{draws_one}
 use Rattle.tile_server.proofs.Switches.{switched_to}
 use Rattle.tile_server.proofs.canvas.Canvas.draw_block.Goals as goal
 
-pub draw-requires-clause-known : goal.draw-requires-clause-known
-draw-requires-clause-known c named =
+pub draw-requires-clause-hardware : goal.draw-requires-clause-hardware
+draw-requires-clause-hardware c =
     let canvas = c.args.self.now in
     let k = c.index.result.now in
     let at = kept_at canvas.kept.items c.from.result c.args.client k c.from.ensures c.requires.client c.index.ensures in
-    canvas.switched.same c.args.client k named (subst (λ (n : ℕ). slice_get canvas.kept.items n ≡ Some k) c.from.ensures at)
+    record {
+      aimed = canvas.aimed;
+      known = λ named. canvas.switched.same c.args.client k named (subst (λ (n : ℕ). slice_get canvas.kept.items n ≡ Some k) c.from.ensures at);
+    }
 
 pub draw-requires-clause-drawable : goal.draw-requires-clause-drawable
 draw-requires-clause-drawable c =

@@ -19,20 +19,19 @@ invariant_of-self c =
     let mid = c.draw_all.new.self in
     record { plain = subst (λ (n : ℕ). are_plain n mid.waiting ≡ true) (sym (ap length c.draw_block.ensures.kept.kept)) mid.plain }
 
-pub returns-clause-same : goal.returns-clause-same
-returns-clause-same c =
-    let mid = c.draw_all.new.self in
-    tiles_in_turn c.args.self.now.drawn mid.drawn c.draw_block.new.self c.draw_all.ensures.same.tile (same_tile mid.drawn c.draw_block.new.self c.draw_block.ensures.kept)
-
-pub returns-clause-done : goal.returns-clause-done
-returns-clause-done c =
+pub returns : goal.returns
+returns c =
     let lazy = c.args.self.now in
     let mid = c.draw_all.new.self in
     let new = c.draw_block.new.self in
     let w : WaitingBlock = record { client = c.args.client; parcel = c.args.parcel.now } in
     let kept = c.draw_block.ensures.kept in
-    done_from lazy mid c.draw_all.ensures.same c.args.client c.args.parcel.now (board_behind new mid.waiting)
+    let done = done_from lazy mid c.draw_all.ensures.same c.args.client c.args.parcel.now (board_behind new mid.waiting)
     (subst (λ (ws : List WaitingBlock). IsCarriedOut mid.drawn.decl mid.drawn.layout c.args.client mid.drawn.tile c.args.parcel.now (board_behind mid.drawn ws) (board_behind new ws))
     (sym c.draw_all.ensures.none)
     (subst (λ (b : Board). IsCarriedOut mid.drawn.decl mid.drawn.layout c.args.client mid.drawn.tile c.args.parcel.now (board_behind mid.drawn []) b)
-    (sym (first_drawn mid.drawn new kept w [] c.draw_block.ensures.drawn)) (last_waits mid.drawn [] w c.requires.plain)))
+    (sym (first_drawn mid.drawn new kept w [] c.draw_block.ensures.drawn)) (last_waits mid.drawn [] w c.requires.plain))) in
+    record {
+      same = tiles_in_turn lazy.drawn mid.drawn new c.draw_all.ensures.same.tile (same_tile mid.drawn new kept);
+      done = done;
+    }

@@ -1,7 +1,8 @@
-use Rattle.std.proofs.Common.{None, Some}
+use Rattle.std.proofs.Common.{◌≡◌, None, Some}
 use Rattle.std.specs.Prelude.{IfNone}
 use Rattle.std.specs.declared.option.Option.{Option}
-use Rattle.tile_server.specs.Ledgers.{NothingIsDueBy}
+use Rattle.rc_base.specs.declared.sync.Entry.{Entry}
+use Rattle.tile_server.specs.Ledgers.{HoldsAll}
 use Rattle.tile_server.specs.Tasks.{NothingIsDueIn}
 use Rattle.tile_server.proofs.tile_core.TileCore.due.Goals as goal
 
@@ -12,4 +13,4 @@ none_so P Q (Some x) f h = tt
 pub returns-clause-none : goal.returns-clause-none
 returns-clause-none c =
     let core = c.args.self.now in
-    none_so (NothingIsDueBy core.ledger) (NothingIsDueIn core) c.due.result (λ h e d. h e d.known d.held) c.due.ensures.none
+    none_so ((e : Entry) → core.ledger.known ≡ Some e → HoldsAll core.ledger.held core.ledger.clients e → ⊥) (NothingIsDueIn core) c.due.result (λ h e d. h e d.known d.held) c.due.ensures.none
