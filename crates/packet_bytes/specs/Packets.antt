@@ -1,5 +1,5 @@
 -- Reading packets from the left, with the first fault that is met. A fault's place is told by how many bytes stand from there on.
-use Rattle.std.specs.Prelude.{◌≡◌, ℕ, zero, suc, ◌*◌, ◌≤◌, Bool, true, false, List, [], ◌∷◌, ◌++◌, length, count_by, Result, Ok, Err, nat_lt, nat_le, ◌==◌, ◌||◌, if◌then◌else◌}
+use Rattle.std.specs.Prelude.{◌≡◌, ℕ, zero, suc, ◌+◌, ◌*◌, ◌≤◌, Bool, true, false, List, [], ◌∷◌, ◌++◌, length, count_by, Option, Result, Ok, Err, IfSome, IfNone, OnOk, nat_lt, nat_le, ◌==◌, ◌||◌, if◌then◌else◌}
 use Rattle.std.specs.Int.{w16}
 use Rattle.rc_base.specs.declared.command.Command.{Command}
 use Rattle.rc_base.specs.declared.command.Opcode.{Opcode}
@@ -94,22 +94,28 @@ abbrev pub kept : {C : Type 0} → Bool → List C → List C → List C
 kept true old read = old ++ read
 kept false old read = old
 
--- A command was read and added behind those before; or a function failed as reading does, or for want of memory.
-abbrev pub AddsCommand : {X C : Type 0} → (X → List ℕ) → List C → List C → Result X ReadError → Result (C × List ℕ) Form → Type 0
-AddsCommand {C = C} rest old new (Ok x) read = (command : C) × (read ≡ Ok (command, rest x)) × (new ≡ old ++ command ∷ [])
-AddsCommand rest old new (Err e) read = Fails e read
-
--- The same of a command of the table, in what holds it.
-abbrev pub AddsHeld : {X C : Type 0} → (Command → C) → (X → List ℕ) → List C → List C → Result X ReadError → Result (Command × List ℕ) Form → Type 0
-AddsHeld held rest old new (Ok x) read = (command : Command) × (read ≡ Ok (command, rest x)) × (new ≡ old ++ held command ∷ [])
+-- What was read was added, by what holds it, behind that before; or a function failed as reading does, or for want of memory.
+abbrev pub AddsHeld : {X C D : Type 0} → (D → C) → (X → List ℕ) → List C → List C → Result X ReadError → Result (D × List ℕ) Form → Type 0
+AddsHeld {D = D} held rest old new (Ok x) read = (command : D) × (read ≡ Ok (command, rest x)) × (new ≡ old ++ held command ∷ [])
 AddsHeld held rest old new (Err e) read = Fails e read
 
--- A command was read and added behind those before, with these bytes behind it; and one of the table, in what holds it.
-abbrev pub AddsNext : {C : Type 0} → List C → List C → List ℕ → Result (C × List ℕ) Form → Type 0
-AddsNext {C = C} old new rest read = (command : C) × (read ≡ Ok (command, rest)) × (new ≡ old ++ command ∷ [])
+-- The same, with these bytes behind it.
+abbrev pub AddsNextHeld : {C D : Type 0} → (D → C) → List C → List C → List ℕ → Result (D × List ℕ) Form → Type 0
+AddsNextHeld {D = D} held old new rest read = (command : D) × (read ≡ Ok (command, rest)) × (new ≡ old ++ held command ∷ [])
 
-abbrev pub AddsNextHeld : {C : Type 0} → (Command → C) → List C → List C → List ℕ → Result (Command × List ℕ) Form → Type 0
-AddsNextHeld held old new rest read = (command : Command) × (read ≡ Ok (command, rest)) × (new ≡ old ++ held command ∷ [])
+-- A command was added so, in room that was there.
+pub record IsAdded {X L C D : Type 0} (items : L → List C) (room_in : L → ℕ) (held : D → C) (rest : X → List ℕ) (old new : L) (result : Result X ReadError)
+    (read : Result (D × List ℕ) Form) : Type 0 where
+  pub added : AddsHeld held rest (items old) (items new) result read
+  pub room : OnOk result (room_in old ≡ room_in new + 1)
+
+-- It was added so, or nothing was.
+pub record IsAddedOrNone {X L C D : Type 0} (items : L → List C) (room_in : L → ℕ) (held : D → C) (rest : X → List ℕ) (old new : L) (result : Option X)
+    (read : Result (D × List ℕ) Form) : Type 0 where
+  pub added : IfSome result (λ x. AddsNextHeld held (items old) (items new) (rest x) read)
+  pub room : IfSome result (λ _. room_in old ≡ room_in new + 1)
+  pub none : IfNone result (items new ≡ items old)
+  pub none_room : IfNone result (room_in new ≡ room_in old)
 
 -- Commands were read, and kept or not; or a function failed as reading does, or for want of memory.
 abbrev pub Keeps : {X C : Type 0} → (X → List ℕ) → Bool → List C → List C → Result X ReadError → Result (List C × List ℕ) Form → Type 0

@@ -128,16 +128,6 @@ pub fn decode_lists_within(
     decode_of::<Vec<ListCommand>>(alloc, room, bytes)
 }
 
-fn read_stream(alloc: Global, bytes: &[u8]) -> Result<ListCommands, PackFault>
-    ensures found { IfOk result (SpellsStreamOf list_set bytes.now) }
-    ensures fails { IfErr result (FailsAsStreamOf list_set bytes.now) }
-{
-    match decode_lists_within(alloc, usize::MAX, bytes) {
-        Ok(DecodedOf { commands, .. }) => Ok(commands),
-        Err(fault) => Err(fault),
-    }
-}
-
 /// The commands that the bytes of a stream with call lists spell, or the first fault from the left with its place in the stream.
 pub fn decode_lists(alloc: Global, bytes: &[u8]) -> Result<ListCommands, PackFault>
     // What is read is spelled so.
@@ -147,5 +137,8 @@ pub fn decode_lists(alloc: Global, bytes: &[u8]) -> Result<ListCommands, PackFau
     // The fault is the first one from the left.
     ensures fails { IfErr result (FailsAsStreamOf list_set bytes.now) }
 {
-    read_stream(alloc, bytes)
+    match decode_lists_within(alloc, usize::MAX, bytes) {
+        Ok(DecodedOf { commands, .. }) => Ok(commands),
+        Err(fault) => Err(fault),
+    }
 }

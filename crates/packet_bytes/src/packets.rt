@@ -1,10 +1,10 @@
 //! Packets of the commands of a set: what a set of commands gives, and the reader of streams over it.
-ghost use Rattle.std.specs.Prelude.{◌≡◌, ℕ, ◌+◌, ◌<◌, ◌≤◌, List, [], ◌∷◌, ◌++◌, count_by, IfOk, IfErr, IfSome, IfNone, OnOk, OnErr};
+ghost use Rattle.std.specs.Prelude.{◌≡◌, ℕ, ◌+◌, ◌<◌, ◌≤◌, List, [], ◌∷◌, ◌++◌, count_by, IfOk, IfErr, OnOk, OnErr};
 ghost use Rattle.rc_base.specs.declared.command.Command.{Command};
 ghost use Rattle.rc_base.specs.Formats.Spelling.{CommandSet};
 ghost use Rattle.byte_codec.specs.Reading.{Gives, Reads, with_front};
 ghost use Rattle.packet_bytes.specs.Sets.{SetReader, Agrees};
-ghost use Rattle.packet_bytes.specs.Packets.{AddsCommand, AddsNext, read_opcode, read_opcodes, read_count, read_payloads, read_packet, Keeps, AddsPacket, Takes, DecodesOf, decoded_as};
+ghost use Rattle.packet_bytes.specs.Packets.{IsAdded, IsAddedOrNone, read_opcode, read_opcodes, read_count, read_payloads, read_packet, Keeps, AddsPacket, Takes, DecodesOf, decoded_as};
 ghost use Rattle.packet_bytes.specs.Faults.{FailsBy, FailsAsStreamOf, pack_fault};
 
 use crate::fault::PackFault;
@@ -81,19 +81,14 @@ pub trait PacketList: HoldsCommands {
         bytes: &'a [u8],
     ) -> Result<&'a [u8], ReadError>
         requires { 0 < Self.room self.old }
-        ensures added { AddsCommand (λ rest. rest.now) (Self.items self.old) (Self.items self.new) result
-            (reader.read opcode bytes.now) }
-        ensures room { OnOk result (Self.room self.old ≡ Self.room self.new + 1) };
+        ensures { IsAdded Self.items Self.room (λ c. c) (λ rest. rest.now) self.old self.new
+            result (reader.read opcode bytes.now) };
 
     /// The same of some commands, which are soon read: where it gives nothing, nothing is added.
     fn add_short<'a>(&mut self, opcode: Self::Opcode, bytes: &'a [u8]) -> Option<&'a [u8]>
         requires { 0 < Self.room self.old }
-        ensures added { IfSome result
-            (λ rest. AddsNext (Self.items self.old) (Self.items self.new) rest.now
-            (reader.read opcode bytes.now)) }
-        ensures room { IfSome result (λ _. Self.room self.old ≡ Self.room self.new + 1) }
-        ensures none { IfNone result (Self.items self.new ≡ Self.items self.old) }
-        ensures none_room { IfNone result (Self.room self.new ≡ Self.room self.old) };
+        ensures { IsAddedOrNone Self.items Self.room (λ c. c) (λ rest. rest.now) self.old self.new
+            result (reader.read opcode bytes.now) };
 
     /// They are read as they are spelled.
     ghost agrees: { Agrees set reader };
@@ -169,10 +164,8 @@ fn add_next<'a, L: PacketList>(
     bytes: &'a [u8],
 ) -> Result<&'a [u8], ReadError>
     requires { 0 < L.room commands.old }
-    ensures added { AddsCommand
-        (λ rest. rest.now) (L.items commands.old) (L.items commands.new) result
-        (L.reader.read opcode bytes.now) }
-    ensures room { OnOk result (L.room commands.old ≡ L.room commands.new + 1) }
+    ensures { IsAdded L.items L.room (λ c. c) (λ rest. rest.now) commands.old commands.new
+        result (L.reader.read opcode bytes.now) }
 {
     match commands.add_short(opcode, bytes) {
         Some(rest) => Ok(rest),

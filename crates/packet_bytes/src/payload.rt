@@ -1,10 +1,10 @@
 //! The reader of payloads: the numbers of a command, each as its range says, and then the texels of its picture.
-ghost use Rattle.std.specs.Prelude.{◌≡◌, ◌+◌, ◌≤◌, ◌<◌, length, take, IfSome, IfNone, OnOk};
+ghost use Rattle.std.specs.Prelude.{◌≤◌, ◌<◌, length, take};
 ghost use Rattle.rc_base.specs.Formats.Commands.{ranges_of, has_picture};
 ghost use Rattle.command_table.specs.Ranges.{AreIn};
 ghost use Rattle.packet_bytes.specs.Parts.{read_number, read_numbers, texel_count};
 ghost use Rattle.byte_codec.specs.Reading.{Gives, Reads, take_bytes};
-ghost use Rattle.packet_bytes.specs.Packets.{AddsHeld, AddsNextHeld, read_command};
+ghost use Rattle.packet_bytes.specs.Packets.{IsAdded, IsAddedOrNone, read_command};
 
 use crate::packets::HoldsCommands;
 use crate::short_payload::read_short;
@@ -71,27 +71,7 @@ fn read_texels<'a>(
     Ok((Texels::from_slice(alloc, texels)?, rest))
 }
 
-// Adds a command that was read.
-#[inline(always)]
-fn add_read<'a, L: HoldsCommands>(
-    commands: &mut L,
-    opcode: Opcode,
-    bytes: &[u8],
-    read: Result<(Command, &'a [u8]), Form>,
-) -> Result<&'a [u8], ReadError>
-    requires room { 0 < L.room commands.old }
-    requires read { Reads (λ x. (x.0, x.1.now)) read (read_command opcode bytes.now) }
-    ensures added { AddsHeld L.held (λ rest. rest.now) (L.items commands.old) (L.items commands.new) result (read_command opcode bytes.now) }
-    ensures room { OnOk result (L.room commands.old ≡ L.room commands.new + 1) }
-{
-    let _opcode = opcode;
-    let _bytes = bytes;
-    let (command, rest) = read?;
-    commands.add(command)?;
-    Ok(rest)
-}
-
-/// The same where the command is one of a block: where it gives nothing, nothing is added. It is inlined where the opcode is known.
+/// Adds a command that is one of a block: where it gives nothing, nothing is added. It is inlined where the opcode is known.
 #[inline(always)]
 fn add_known<'a, L: HoldsCommands>(
     commands: &mut L,
@@ -99,12 +79,8 @@ fn add_known<'a, L: HoldsCommands>(
     bytes: &'a [u8],
 ) -> Option<&'a [u8]>
     requires { 0 < L.room commands.old }
-    ensures added { IfSome result
-        (λ rest. AddsNextHeld L.held (L.items commands.old) (L.items commands.new) rest.now
-        (read_command opcode bytes.now)) }
-    ensures room { IfSome result (λ _. L.room commands.old ≡ L.room commands.new + 1) }
-    ensures none { IfNone result (L.items commands.new ≡ L.items commands.old) }
-    ensures none_room { IfNone result (L.room commands.new ≡ L.room commands.old) }
+    ensures { IsAddedOrNone L.items L.room L.held (λ rest. rest.now) commands.old commands.new
+        result (read_command opcode bytes.now) }
 {
     match read_short(opcode, bytes) {
         Some(Ok((command, rest))) => match commands.add(command) {
@@ -124,12 +100,8 @@ pub(crate) fn add_short<'a, L: HoldsCommands>(
     bytes: &'a [u8],
 ) -> Option<&'a [u8]>
     requires { 0 < L.room commands.old }
-    ensures added { IfSome result
-        (λ rest. AddsNextHeld L.held (L.items commands.old) (L.items commands.new) rest.now
-        (read_command opcode bytes.now)) }
-    ensures room { IfSome result (λ _. L.room commands.old ≡ L.room commands.new + 1) }
-    ensures none { IfNone result (L.items commands.new ≡ L.items commands.old) }
-    ensures none_room { IfNone result (L.room commands.new ≡ L.room commands.old) }
+    ensures { IsAddedOrNone L.items L.room L.held (λ rest. rest.now) commands.old commands.new
+        result (read_command opcode bytes.now) }
 {
     if bytes.len() < LONGEST {
         return None;
@@ -153,11 +125,13 @@ fn add_any<'a, L: HoldsCommands>(
     bytes: &'a [u8],
 ) -> Result<&'a [u8], ReadError>
     requires { 0 < L.room commands.old }
-    ensures added { AddsHeld L.held (λ rest. rest.now) (L.items commands.old) (L.items commands.new) result (read_command opcode bytes.now) }
-    ensures room { OnOk result (L.room commands.old ≡ L.room commands.new + 1) }
+    ensures { IsAdded L.items L.room L.held (λ rest. rest.now) commands.old commands.new
+        result (read_command opcode bytes.now) }
 {
     if let Some(read) = read_short(opcode, bytes) {
-        return add_read::<L>(commands, opcode, bytes, read);
+        let (command, rest) = read?;
+        commands.add(command)?;
+        return Ok(rest);
     }
     let ranges = ranges_of(opcode);
     let mut room = [0; 16];
@@ -179,8 +153,8 @@ pub fn add_command<'a, L: HoldsCommands>(
     bytes: &'a [u8],
 ) -> Result<&'a [u8], ReadError>
     requires { 0 < L.room commands.old }
-    ensures added { AddsHeld L.held (λ rest. rest.now) (L.items commands.old) (L.items commands.new) result (read_command opcode bytes.now) }
-    ensures room { OnOk result (L.room commands.old ≡ L.room commands.new + 1) }
+    ensures { IsAdded L.items L.room L.held (λ rest. rest.now) commands.old commands.new
+        result (read_command opcode bytes.now) }
 {
     match opcode {
         Opcode::Begin => add_any::<L>(commands, alloc, Opcode::Begin, bytes),

@@ -159,16 +159,6 @@ pub fn decode_within(alloc: Global, room: usize, bytes: &[u8]) -> Result<Decoded
     decode_of::<Vec<Command>>(alloc, room, bytes)
 }
 
-fn read_stream(alloc: Global, bytes: &[u8]) -> Result<Commands, PackFault>
-    ensures found { IfOk result (SpellsStream bytes.now) }
-    ensures fails { IfErr result (FailsAsStream bytes.now) }
-{
-    match decode_within(alloc, usize::MAX, bytes) {
-        Ok(DecodedOf { commands, .. }) => Ok(commands),
-        Err(fault) => Err(fault),
-    }
-}
-
 /// The commands that the bytes of a stream spell, or the first fault from the left with its place in the stream.
 pub fn decode(alloc: Global, bytes: &[u8]) -> Result<Commands, PackFault>
     // What is read is spelled so.
@@ -178,5 +168,8 @@ pub fn decode(alloc: Global, bytes: &[u8]) -> Result<Commands, PackFault>
     // The fault is the first one from the left.
     ensures fails { IfErr result (FailsAsStream bytes.now) }
 {
-    read_stream(alloc, bytes)
+    match decode_within(alloc, usize::MAX, bytes) {
+        Ok(DecodedOf { commands, .. }) => Ok(commands),
+        Err(fault) => Err(fault),
+    }
 }

@@ -25,7 +25,7 @@ use Rattle.call_lists.specs.Laws.{CostsAreTold, ExpansionsAreWhole, ExpansionsSt
 use Rattle.call_lists.specs.Scenes.{AreExpanded, IsShort, cost_told, expanded, expanded_count, met_in}
 use Rattle.call_lists.specs.declared.answer.ExpandFault.TheVariants as expanding
 use Rattle.call_lists.specs.declared.streams.Expansions.{Expansions}
-use Rattle.scene_file.specs.Faults.{Differs, FailsAsListScene, FailsAsScene, IsBeyond, IsListBeyond, SpellsListScene, TellsForm, TellsListForm}
+use Rattle.scene_file.specs.Faults.{Differs, FailsAsListScene, FailsAsScene, IsBeyond, IsBeyondBy, SpellsListScene, TellsForm, TellsFormBy, list_limit_of}
 use Rattle.scene_file.specs.declared.fault.SceneFault.{SceneFault}
 use Rattle.scene_file.specs.declared.fault.SceneFault.TheVariants.{Malformed, Limit as PastLimit, OutOfMemory}
 use Rattle.scene_file.specs.declared.list_scene.ListScene.{ListScene}
@@ -204,7 +204,7 @@ module _ (input : List ℕ) (short : length input ≤ byte_limit) where
       (only : (s : ListScene) → SpellsListScene input s → read_limit s.decl s.streams ≡ None → (r ≡ Ok s) ⊎ (r ≡ Err OutOfMemory))
       (limit_only : (s : ListScene) (l : Limit) → SpellsListScene input s → read_limit s.decl s.streams ≡ Some l
       → (r ≡ Err (PastLimit l.what l.value)) ⊎ (r ≡ Err OutOfMemory))
-      (tells : IfErr r (TellsListForm input)) (beyond : IfErr r (IsListBeyond input)) where
+      (tells : IfErr r (TellsFormBy FailsAsListScene input)) (beyond : IfErr r (IsBeyondBy SpellsListScene list_limit_of input)) where
     pub refused_with_lists : IsRefusedInput Bytes input (refusal_of_scene fault)
     refused_with_lists = refused_as Bytes fault
         (λ kind at e. (none kind at e, (kind, at, fails_with_lists input kind at begin (fails kind at e), refl)))
@@ -215,11 +215,11 @@ module _ (input : List ℕ) (short : length input ≤ byte_limit) where
             ap (λ (o : Option Limit). option_or o (option_or (expansion_limit (cost_told 0 (met_in s.streams))) (stream_limit (meant (Lists s))))) e
 
         fails : (kind : SceneKind) (at : ℕ) → fault ≡ Malformed kind at → FailsAsListScene input kind at
-        fails kind at e = subst (λ (q : Result ListScene SceneFault). IfErr q (TellsListForm input)) (is ∙ ap Err e) tells
+        fails kind at e = subst (λ (q : Result ListScene SceneFault). IfErr q (TellsFormBy FailsAsListScene input)) (is ∙ ap Err e) tells
 
         outside : (what value : ℕ) → fault ≡ PastLimit what value
             → (s : ListScene) × SpellsListScene input s × (read_limit s.decl s.streams ≡ Some (record { what = what; value = value }))
-        outside what value e = subst (λ (q : Result ListScene SceneFault). IfErr q (IsListBeyond input)) (is ∙ ap Err e) beyond
+        outside what value e = subst (λ (q : Result ListScene SceneFault). IfErr q (IsBeyondBy SpellsListScene list_limit_of input)) (is ∙ ap Err e) beyond
 
         unspelled : (kind : SceneKind) (at : ℕ) → r ≡ Err (Malformed kind at) → (s : ListScene) → SpellsListScene input s → (o : Option Limit)
             → read_limit s.decl s.streams ≡ o → ⊥

@@ -1,12 +1,11 @@
 -- An answer to bytes is the one that they have.
 use Rattle.std.proofs.Common.{◌≡◌, ℕ, ◌⊎◌, inl, inr, List, Option, Some, None, Result, Ok, Err, refl, sym, ap, ◌∙◌}
-use Rattle.std.specs.Prelude.{IfOk, IfErr}
 use Rattle.rc_base.specs.declared.scene.Limit.{Limit}
 use Rattle.rc_base.specs.declared.scene.SceneKind.{SceneKind}
 use Rattle.scene_file.specs.declared.fault.SceneFault.{SceneFault}
 use Rattle.scene_file.specs.declared.fault.SceneFault.TheVariants.{OutOfMemory}
 use Rattle.scene_file.specs.declared.fault.SceneFault.TheVariants as scene_faults
-use Rattle.scene_file.specs.Faults.{TellsFormBy, IsBeyondBy}
+use Rattle.scene_file.specs.Faults.{IsReadBy}
 use Rattle.scene_file.specs.Laws.{AreOne, FaultsSpellNone, AreOneFault}
 
 none_and_some : (o : Option Limit) (l : Limit) → o ≡ None → o ≡ Some l → ⊥
@@ -23,10 +22,8 @@ module _ {S : Type 0} (Spells : List ℕ → S → Type 0) (limit_at : S → Opt
   Answers r wanted = (r ≡ wanted) ⊎ (r ≡ Err OutOfMemory)
 
   -- what is known of an answer
-  pub record Known (bytes : List ℕ) (r : Result S SceneFault) : Type 0 where
-    pub found : IfOk r (λ s. Spells bytes s × (limit_at s ≡ None))
-    pub malformed : IfErr r (TellsFormBy Fails bytes)
-    pub limit : IfErr r (IsBeyondBy Spells limit_at bytes)
+  abbrev pub Known : List ℕ → Result S SceneFault → Type 0
+  Known bytes r = IsReadBy (λ s. s) Spells limit_at Fails bytes r
 
   pub only_scene : (bytes : List ℕ) (r : Result S SceneFault) → Known bytes r → (s : S) → Spells bytes s → limit_at s ≡ None → Answers r (Ok s)
   only_scene bytes (Ok v) k s sp within = inl (ap (λ (x : S). Ok x) (one bytes v s k.found.0 sp))

@@ -18,7 +18,7 @@ use Rattle.scene_file.specs.Letters.{Letters, form_of}
 use Rattle.scene_file.specs.Counting.{Counts, DecodesFirst, SpellsCounted, counted_as, frames_with, least_shown}
 use Rattle.scene_file.specs.declared.reading.Counted.{Counted}
 use Rattle.std.proofs.lemmas.List.{map-id}
-use Rattle.scene_file.specs.Faults.{TellsForm, TellsFormBy, IsBeyond, IsBeyondBy, IsJudged, IsJudgedBy, FailsAsScene, FailsAsSceneOf, SceneFailsBy}
+use Rattle.scene_file.specs.Faults.{TellsForm, TellsFormBy, IsBeyond, IsBeyondBy, IsJudged, IsJudgedBy, IsReadBy, FailsAsScene, FailsAsSceneOf, SceneFailsBy}
 use Rattle.scene_file.specs.Reading.{scene_fault}
 use Rattle.scene_file.specs.declared.fault.Broken.{Broken}
 use Rattle.scene_file.specs.declared.fault.Broken.TheVariants as broken
@@ -98,6 +98,12 @@ fault_told form all bytes (broken.Form kind left) fault e h =
     let at : h.0 ≡ length bytes - left = omega (arith, h.2) in
     subst (TellsFormBy (FailsAsSceneOf form all) bytes) (sym e) (subst (λ (n : ℕ). FailsAsSceneOf form all bytes kind n) at h.1)
 
+-- it is no quantity outside its range
+pub not_beyond : {S : Type 0} (Spells : List ℕ → S → Type 0) (limit : S → Option Limit) (bytes : List ℕ) (b : Broken) (fault : SceneFault)
+    → fault ≡ scene_fault b (length bytes) → IsBeyondBy Spells limit bytes fault
+not_beyond Spells limit bytes broken.Memory fault e = subst (IsBeyondBy Spells limit bytes) (sym e) tt
+not_beyond Spells limit bytes (broken.Form kind left) fault e = subst (IsBeyondBy Spells limit bytes) (sym e) tt
+
 -- ---- what is judged
 
 -- Bytes spell a scene, and the answer is the judgement of it.
@@ -132,15 +138,9 @@ module _ {X : Type 0} (view : X → Scene) where
   seen_err P (Ok x) h = tt
   seen_err P (Err e) h = h
 
-  -- what is known of the answer
-  pub record IsAnswer (bytes : List ℕ) (r : Result X SceneFault) : Type 0 where
-    pub found : IfOk r (λ x. SpellsScene bytes (view x) × (limit_of (view x) ≡ None))
-    pub malformed : IfErr r (TellsForm bytes)
-    pub limit : IfErr r (IsBeyond bytes)
-
   -- what was counted was judged
   pub judged_seen : (bytes : List ℕ) (x : Counted (List Command)) (r : Result X SceneFault) → SpellsCounted plain_form is_swap_command bytes x
-      → ((s : Scene) → Counts is_swap_command x s.decl s.streams → IsJudged s (seen r)) → IsAnswer bytes r
+      → ((s : Scene) → Counts is_swap_command x s.decl s.streams → IsJudged s (seen r)) → IsReadBy view SpellsScene limit_of FailsAsScene bytes r
   judged_seen bytes x r known judged =
       let s : Scene = record { decl = known.decl; streams = known.streams } in
       let j = judged s known.counts in

@@ -10,7 +10,7 @@ use Rattle.rc_base.specs.declared.scene.Decl.{Decl}
 use Rattle.rc_base.specs.declared.scene.Limit.{Limit}
 use Rattle.rc_base.specs.declared.scene.Scene.{Scene}
 use Rattle.rc_base.specs.Formats.Limits.{held_limit, Quantity, quantity, is_outside, first_outside, size_area, side, barrier_count, is_swap_command, least_swaps, commands_in, quantities_with, frame_quantities, limit_of, read_limit, stream_limit, judged}
-use Rattle.scene_file.specs.Judging.{or_else, one, window_part, judge_decl, stream_part, judge_parts, judge_read, judge_scene}
+use Rattle.scene_file.specs.Judging.{or_else, one, window_part, judge_decl, stream_part, judge_parts}
 use Rattle.scene_file.specs.declared.reading.Counted.{Counted}
 use Rattle.scene_file.specs.Counting.{Counts}
 use Rattle.scene_file.specs.declared.list_scene.ListScene.{ListScene}
@@ -53,9 +53,17 @@ parts_with d clients commands rest =
     ∙ ap (or_else (first_outside e)) (outside_append f (g ++ h) ∙ ap (or_else (first_outside f)) (outside_append g h)))))
     ∙ regroup (first_outside a) (first_outside b) (first_outside c) (first_outside e) (first_outside f) (first_outside g) (first_outside h)
 
+-- the parts of a scene that is there
+abbrev pub judge_scene : Scene → Option Limit
+judge_scene s = judge_parts s.decl (length s.streams) (commands_in s.streams) (least_swaps s.streams)
+
 pub limit_parts : (s : Scene) → limit_of s ≡ judge_scene s
 unfolding limit_of
 limit_parts s = parts_with s.decl (length s.streams) (commands_in s.streams) (frame_quantities s)
+
+-- what is judged of a scene with call lists that is read
+abbrev pub judge_read : Decl → ℕ → ℕ → Option Limit
+judge_read d clients commands = or_else (judge_decl d clients) (first_outside (one 11 commands 1048576))
 
 pub read_parts : (d : Decl) (streams : List (List ListCommand)) → read_limit d streams ≡ judge_read d (length streams) (sum_by length streams)
 unfolding read_limit

@@ -11,10 +11,10 @@ use Rattle.rc_base.specs.declared.scene.Decl.{Decl}
 use Rattle.rc_base.specs.declared.scene.Limit.{Limit}
 use Rattle.rc_base.specs.declared.scene.Scene.{Scene}
 use Rattle.rc_base.specs.Formats.Limits.{first_outside, barrier_count, side, size_area, limit_of}
-use Rattle.rc_base.specs.Formats.Spelling.{CommandSet, SceneForm, half, size, magic, header, stream_text, encoded, IsCount, IsSide, IsSize, IsDecl, IsDeclOf, IsPacketOf, SpellStreams, SpellStreamsOf, SpellsScene, SpellsSceneOf}
+use Rattle.rc_base.specs.Formats.Spelling.{CommandSet, SceneForm, half, size, magic, header, stream_text, encoded, IsCount, IsSide, IsSize, IsDecl, IsDeclOf, IsPacketOf, SpellsStream, SpellStreams, SpellStreamsOf, SpellsScene, SpellsSceneOf}
 use Rattle.packet_bytes.proofs.EncodedSpells.{encoded_spells}
 use Rattle.byte_codec.proofs.WrittenInTurn.{all_both}
-use Rattle.scene_file.specs.Written.{written, IsShort, IsEncoded, IsWritable}
+use Rattle.scene_file.specs.Written.{written, IsShort, IsWritable}
 use Rattle.scene_file.specs.Judging.{or_else, one, window_part, judge_counts, judge_decl}
 use Rattle.scene_file.proofs.LimitsByParts.{outside_append, limit_parts, none_first, single, window_within}
 
@@ -99,6 +99,10 @@ pub all_at : (P : List Command → Type 0) (css : List (List Command)) → P [] 
 all_at P [] none h k = none
 all_at P (cs ∷ css) none h zero = h.0
 all_at P (cs ∷ css) none h (suc k) = all_at P css none h.1 k
+
+-- a stream's packets spell it
+abbrev pub IsEncoded : List Command → Type 0
+IsEncoded commands = SpellsStream (encoded commands) commands
 
 streams_spelled : (css : List (List Command)) → AllByRecursion IsEncoded css → AllByRecursion IsShort css → SpellStreams (map encoded css) css
 streams_spelled [] e s = tt

@@ -1,14 +1,15 @@
 -- What is wrong with bytes that spell no scene, and at which place: the first fault from the left.
-use Rattle.std.specs.Prelude.{◌≡◌, ℕ, suc, ◌+◌, ◌<◌, ◌^◌, ◌⊎◌, List, [], ◌∷◌, ◌++◌, length, Option, Some, None, Result, Ok, Err}
+use Rattle.std.specs.Prelude.{◌≡◌, ℕ, suc, ◌+◌, ◌<◌, ◌^◌, ◌⊎◌, List, [], ◌∷◌, ◌++◌, length, Option, Some, None, Result, Ok, Err, IfOk, IfErr}
 use Rattle.std.specs.List.{flat_map, AllByRecursion}
 use Rattle.rc_base.specs.declared.scene.Decl.{Decl}
 use Rattle.rc_base.specs.declared.scene.Scene.{Scene}
 use Rattle.rc_base.specs.declared.scene.Limit.{Limit}
 use Rattle.rc_base.specs.declared.scene.SceneKind.{SceneKind}
 use Rattle.rc_base.specs.declared.scene.SceneKind.TheVariants.{BadMagic, BadCount, UnknownOpcode, Truncated, Trailing}
-use Rattle.rc_base.specs.Formats.Spelling.{CommandSet, SceneForm, plain_form, list_form, header_of, IsDecl, IsDeclOf, IsListCommand, stream_text, SpellStreamsOf, SpellsStreamOf, SpellsSceneOf, SpellsScene}
+use Rattle.rc_base.specs.Formats.Spelling.{CommandSet, SceneForm, plain_form, list_form, header_of, IsDecl, IsDeclOf, stream_text, SpellStreamsOf, SpellsStreamOf, SpellsSceneOf, SpellsScene}
 use Rattle.rc_base.specs.Formats.Commands.{IsCommand}
 use Rattle.rc_base.specs.Formats.Limits.{limit_of, read_limit}
+use Rattle.rc_base.specs.Formats.Within.{IsWithin}
 use Rattle.packet_bytes.specs.declared.fault.PackFault.{PackFault}
 use Rattle.packet_bytes.specs.declared.fault.PackFault.TheVariants as faults
 use Rattle.packet_bytes.specs.Faults.{FailsAsStreamOf}
@@ -163,15 +164,12 @@ IsJudged s result = IsJudgedBy limit_of s result
 abbrev pub IsBeyond : List ℕ → SceneFault → Type 0
 IsBeyond bytes fault = IsBeyondBy SpellsScene limit_of bytes fault
 
--- the same of scenes with call lists
-abbrev pub TellsListForm : List ℕ → SceneFault → Type 0
-TellsListForm bytes fault = TellsFormBy FailsAsListScene bytes fault
-
-abbrev pub IsListJudged : ListScene → Result ListScene SceneFault → Type 0
-IsListJudged s result = IsJudgedBy list_limit_of s result
-
-abbrev pub IsListBeyond : List ℕ → SceneFault → Type 0
-IsListBeyond bytes fault = IsBeyondBy SpellsListScene list_limit_of bytes fault
+-- What was read of bytes: a scene that they spell, within the limits, or what is wrong with them, or the first quantity outside its range.
+pub record IsReadBy {X S : Type 0} (view : X → S) (Spells : List ℕ → S → Type 0) (limit_in : S → Option Limit) (Fails : List ℕ → SceneKind → ℕ → Type 0)
+    (bytes : List ℕ) (result : Result X SceneFault) : Type 0 where
+  pub found : IfOk result (λ x. Spells bytes (view x) × (limit_in (view x) ≡ None))
+  pub malformed : IfErr result (TellsFormBy Fails bytes)
+  pub limit : IfErr result (IsBeyondBy Spells limit_in bytes)
 
 -- ---- what readers answer unless memory runs out
 
@@ -202,22 +200,20 @@ TellsEachForm bytes result = TellsEachFormBy FailsAsScene bytes result
 abbrev pub TellsEachLimit : List ℕ → Result Scene SceneFault → Type 0
 TellsEachLimit bytes result = TellsEachLimitBy SpellsScene limit_of bytes result
 
--- the same of scenes with call lists
-abbrev pub ReadsEachList : List ℕ → Result ListScene SceneFault → Type 0
-ReadsEachList bytes result = ReadsEachBy SpellsListScene list_limit_of bytes result
-
-abbrev pub TellsEachListForm : List ℕ → Result ListScene SceneFault → Type 0
-TellsEachListForm bytes result = TellsEachFormBy FailsAsListScene bytes result
-
-abbrev pub TellsEachListLimit : List ℕ → Result ListScene SceneFault → Type 0
-TellsEachListLimit bytes result = TellsEachLimitBy SpellsListScene list_limit_of bytes result
-
 -- the fields of its declaration and of its commands are in their ranges
 abbrev pub HasFields : Scene → Type 0
 HasFields s = IsDecl s.decl × AllByRecursion (AllByRecursion IsCommand) s.streams
 
-abbrev pub HasListFields : ListScene → Type 0
-HasListFields s = IsDeclOf list_form s.decl × AllByRecursion (AllByRecursion IsListCommand) s.streams
+-- all that `read_scene` says of its answer
+pub record IsSceneRead (bytes : List ℕ) (result : Result Scene SceneFault) : Type 0 where
+  pub found : IfOk result (λ s. SpellsScene bytes s × (limit_of s ≡ None))
+  pub fields : IfOk result HasFields
+  pub within : IfOk result IsWithin
+  pub only : ReadsEach bytes result
+  pub malformed : IfErr result (TellsForm bytes)
+  pub malformed_only : TellsEachForm bytes result
+  pub limit : IfErr result (IsBeyond bytes)
+  pub limit_only : TellsEachLimit bytes result
 
 -- ---- the same of faults on their way up, whose places are told by how many bytes stand from there on
 

@@ -18,10 +18,6 @@ drawing_from state round client =
     if is_lone round then (if lone_client round == client then cmd.Disable 0 ∷ generated_triangle state 0 else [])
     else cmd.Enable 0 ∷ generated_triangle state 0
 
--- the same before it meets the others
-abbrev pub turn_from : ℕ → ℕ → ℕ → List Command
-turn_from state round client = drawing_from state round client ++ cmd.Barrier 1 ∷ []
-
 -- the state behind that
 abbrev pub state_behind : ℕ → ℕ → ℕ → ℕ
 state_behind state round client = drawn_state state (10 * triangles_in round client)

@@ -3,25 +3,16 @@ use Rattle.std.specs.Prelude.{◌≡◌, ℕ, ◌*◌, ◌≤◌, List, [], ◌�
 use Rattle.std.specs.List.{flat_map}
 use Rattle.rc_base.specs.declared.scene.Decl.{Decl}
 use Rattle.rc_base.specs.declared.scene.Limit.{Limit}
-use Rattle.rc_base.specs.declared.scene.Scene.{Scene}
-use Rattle.rc_base.specs.Formats.Limits.{Quantity, first_outside, size_area, side, barrier_count, least_swaps, commands_in, limit_of}
+use Rattle.rc_base.specs.Formats.Limits.{Quantity, first_outside, size_area, side, barrier_count}
 
 -- it says that no quantity is outside its range, or which one is the first
 abbrev pub Tells : Result (Unit {0}) Limit → Option Limit → Type 0
 Tells result limit = MatchResult result (λ _. limit ≡ None) (λ l. limit ≡ Some l)
 
--- this is the first quantity outside its range of each scene with this declaration and so many clients
-abbrev pub IsLimitOfClients : Decl → ℕ → Limit → Type 0
-IsLimitOfClients decl clients limit = (s : Scene) → s.decl ≡ decl → length s.streams ≡ clients → limit_of s ≡ Some limit
-
--- the same where they have so many commands
-abbrev pub IsLimitOfCommands : Decl → ℕ → ℕ → Limit → Type 0
-IsLimitOfCommands decl clients commands limit =
-    (s : Scene) → s.decl ≡ decl → length s.streams ≡ clients → commands_in s.streams ≡ commands → limit_of s ≡ Some limit
-
--- a window and a number of clients that a scene may have
-abbrev pub IsWindowWithin : Decl → ℕ → Type 0
-IsWindowWithin decl clients = (decl.width ≤ 2048) × (decl.height ≤ 2048) × (clients ≤ 8)
+-- a window is no larger than that of a scene may be
+pub record IsWindowWithin (decl : Decl) : Type 0 where
+  pub width : decl.width ≤ 2048
+  pub height : decl.height ≤ 2048
 
 abbrev pub window_part : Decl → ℕ → List Quantity
 window_part d clients =
@@ -57,11 +48,3 @@ stream_part d commands frames =
 -- the parts in the order of the table, of so many clients with so many commands and frames
 abbrev pub judge_parts : Decl → ℕ → ℕ → ℕ → Option Limit
 judge_parts d clients commands frames = or_else (judge_decl d clients) (first_outside (stream_part d commands frames))
-
--- the same of what is read of a scene with call lists
-abbrev pub judge_read : Decl → ℕ → ℕ → Option Limit
-judge_read d clients commands = or_else (judge_decl d clients) (first_outside (one 11 commands 1048576))
-
--- the parts of a scene that is there
-abbrev pub judge_scene : Scene → Option Limit
-judge_scene s = judge_parts s.decl (length s.streams) (commands_in s.streams) (least_swaps s.streams)

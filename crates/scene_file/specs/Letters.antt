@@ -12,10 +12,6 @@ pub record Letters : Type 1 where
   pub begins : ℕ → List ℕ
   pub all : List (List ℕ)
 
--- the bytes begin with the letters of a version by which the scenes draw, and this is the rest
-abbrev pub HasMagic : Letters → List ℕ → ℕ → List ℕ → Type 0
-HasMagic letters bytes version rest = letters.IsDrawn version × (bytes ≡ letters.begins version ++ rest)
-
 -- scenes of the commands of the table
 abbrev pub plain_letters : Letters
 plain_letters = record { IsDrawn = IsVersion; begins = magic; all = magic 1 ∷ magic 2 ∷ [] }

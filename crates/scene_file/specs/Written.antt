@@ -2,10 +2,9 @@
 use Rattle.std.specs.Prelude.{◌≡◌, ℕ, ◌<◌, ◌^◌, List, ◌++◌, length, map, None}
 use Rattle.std.specs.List.{flat_map, AllByRecursion}
 use Rattle.rc_base.specs.declared.command.Command.{Command}
-use Rattle.rc_base.specs.declared.scene.Decl.{Decl}
 use Rattle.rc_base.specs.declared.scene.Scene.{Scene}
 use Rattle.rc_base.specs.Formats.Limits.{limit_of}
-use Rattle.rc_base.specs.Formats.Spelling.{IsSide, IsSize, IsVersion, header, stream_text, encoded, SpellsScene, SpellsStream}
+use Rattle.rc_base.specs.Formats.Spelling.{IsVersion, header, stream_text, encoded}
 use Rattle.packet_bytes.specs.Texels.{IsWhole}
 
 -- the header, and then each stream's packets behind their length
@@ -20,10 +19,6 @@ AreWhole commands = AllByRecursion IsWhole commands
 abbrev pub IsShort : List Command → Type 0
 IsShort commands = length (encoded commands) < 2 ^ 32
 
--- a stream's packets spell it
-abbrev pub IsEncoded : List Command → Type 0
-IsEncoded commands = SpellsStream (encoded commands) commands
-
 -- a scene that can be written
 pub record IsWritable (s : Scene) : Type 0 where
   pub version : IsVersion s.decl.version
@@ -34,11 +29,3 @@ pub record IsWritable (s : Scene) : Type 0 where
 -- the bytes are those of a scene that draws as version 1 or 2
 abbrev pub IsWritten : Scene → List ℕ → Type 0
 IsWritten s bytes = IsVersion s.decl.version → bytes ≡ written s
-
--- they are read again as this scene, where each of its pictures has four bytes for each texel
-abbrev pub IsReadAgain : Scene → List ℕ → Type 0
-IsReadAgain s bytes = IsVersion s.decl.version → AllByRecursion AreWhole s.streams → SpellsScene bytes s
-
--- the numbers of a declaration fit their fields
-abbrev pub HasSizes : Decl → Type 0
-HasSizes decl = AllByRecursion IsSize decl.shared × AllByRecursion IsSide decl.semaphores

@@ -1,10 +1,9 @@
 //! Reading a scene whose streams are decoded side by side, each in a thread of its own.
-ghost use Rattle.std.specs.Prelude.{◌≡◌, ◌+◌, ◌-◌, ◌≤◌, ◌∷◌, length, IfOk, IfErr, IfSome, Ok, Err, Some, None};
+ghost use Rattle.std.specs.Prelude.{◌≡◌, ◌+◌, ◌-◌, ◌≤◌, ◌∷◌, length, IfSome, None};
 ghost use Rattle.rc_base.specs.Formats.Spelling.{SpellsScene};
 ghost use Rattle.rc_base.specs.Formats.Limits.{limit_of};
-ghost use Rattle.rc_base.specs.Formats.Within.{IsWithin};
 ghost use Rattle.packet_bytes.specs.Packets.{decoded_as};
-ghost use Rattle.scene_file.specs.Faults.{HasFields, ReadsEach, TellsEachForm, TellsEachLimit, TellsForm, IsBeyond};
+ghost use Rattle.scene_file.specs.Faults.{FailsAsScene, IsReadBy, IsSceneRead};
 ghost use Rattle.scene_file.specs.Counting.{frames_with};
 ghost use Rattle.scene_file.specs.Beside.{HoldsStream, HoldsStreams, gathered_as};
 
@@ -241,9 +240,7 @@ fn judged_beside<R: Threads, K: DecodesBeside>(
     alloc: Global,
     bytes: &[u8],
 ) -> Result<K::Scene, SceneFault>
-    ensures found { IfOk result (λ s. SpellsScene bytes.now (K.scene s) × (limit_of (K.scene s) ≡ None)) }
-    ensures malformed { IfErr result (TellsForm bytes.now) }
-    ensures limit { IfErr result (IsBeyond bytes.now) }
+    ensures { IsReadBy K.scene SpellsScene limit_of FailsAsScene bytes.now result }
 {
     if bytes.len() < LEAST_BYTES {
         return read_judged::<K>(alloc, bytes);
@@ -261,22 +258,7 @@ pub fn read_scene_beside<R: Threads>(
     alloc: Global,
     bytes: &[u8],
 ) -> Result<Scene, SceneFault>
-    // What is read is spelled so, and within the limits.
-    ensures found { IfOk result (λ s. SpellsScene bytes.now s × (limit_of s ≡ None)) }
-    // Its fields are in their ranges.
-    ensures fields { IfOk result HasFields }
-    // So it is within what every call that takes a scene asks.
-    ensures within { IfOk result IsWithin }
-    // What is spelled so and within the limits is read, unless memory runs out.
-    ensures only { ReadsEach bytes.now result }
-    // Malformed bytes have this fault first from the left, at this place.
-    ensures malformed { IfErr result (TellsForm bytes.now) }
-    // Such bytes are answered so, unless memory runs out.
-    ensures malformed_only { TellsEachForm bytes.now result }
-    // The scene that is spelled has this quantity outside its range, the first in the order of the table.
-    ensures limit { IfErr result (IsBeyond bytes.now) }
-    // Such a scene is answered so, unless memory runs out.
-    ensures limit_only { TellsEachLimit bytes.now result }
+    ensures { IsSceneRead bytes.now result }
 {
     judged_beside::<R, Commands>(rt, alloc, bytes)
 }
@@ -287,22 +269,7 @@ pub fn read_stored_scene_beside<R: Threads>(
     alloc: Global,
     bytes: &[u8],
 ) -> Result<StoredScene, SceneFault>
-    // What is read is spelled so, and within the limits.
-    ensures found { IfOk result (λ s. SpellsScene bytes.now s × (limit_of s ≡ None)) }
-    // Its fields are in their ranges.
-    ensures fields { IfOk result HasFields }
-    // So it is within what every call that takes a scene asks.
-    ensures within { IfOk result IsWithin }
-    // What is spelled so and within the limits is read, unless memory runs out.
-    ensures only { ReadsEach bytes.now result }
-    // Malformed bytes have this fault first from the left, at this place.
-    ensures malformed { IfErr result (TellsForm bytes.now) }
-    // Such bytes are answered so, unless memory runs out.
-    ensures malformed_only { TellsEachForm bytes.now result }
-    // The scene that is spelled has this quantity outside its range, the first in the order of the table.
-    ensures limit { IfErr result (IsBeyond bytes.now) }
-    // Such a scene is answered so, unless memory runs out.
-    ensures limit_only { TellsEachLimit bytes.now result }
+    ensures { IsSceneRead bytes.now result }
 {
     judged_beside::<R, CommandStore>(rt, alloc, bytes)
 }

@@ -1,9 +1,10 @@
 //! The scene of a seed: eight clients that draw triangles in bands of their own, or one at a time, and meet after each round.
-ghost use Rattle.std.specs.Prelude.{◌≡◌, ◌+◌, ◌*◌, ◌%◌, ◌<◌, ◌≤◌, ◌==◌, ◌++◌, map, IfOk, OnOk};
+ghost use Rattle.std.specs.Prelude.{◌≡◌, ◌+◌, ◌*◌, ◌%◌, ◌<◌, ◌≤◌, ◌==◌, [], ◌∷◌, ◌++◌, map, IfOk, OnOk};
 ghost use Rattle.std.specs.List.{range_with_len};
+ghost use Rattle.rc_base.specs.declared.command.Command.TheVariants as cmd;
 ghost use Rattle.rc_base.specs.Formats.Within.{IsWithin};
 ghost use Rattle.scene_file.specs.Generator.{next_state, drawn_state, draw_of, is_lone, lone_client, coordinate_of, generated_vertex, generated_triangle, generated_scene};
-ghost use Rattle.scene_file.specs.Generated.{color_from, drawing_from, state_behind, turn_from, opening_of, streams_at, ended};
+ghost use Rattle.scene_file.specs.Generated.{color_from, drawing_from, state_behind, opening_of, streams_at, ended};
 
 use rc_base::{Command, Commands, Counts, Decl, OutOfMemory, Rgba, Scene, Sizes, Streams, Units};
 use std::alloc::Global;
@@ -131,7 +132,8 @@ fn add_turn(
     round: u32,
     client: u32,
 ) -> Result<(), OutOfMemory>
-    ensures stream { OnOk result (stream.new ≡ stream.old ++ turn_from draws.old.state round client) }
+    ensures stream { OnOk result (stream.new
+        ≡ stream.old ++ (drawing_from draws.old.state round client ++ cmd.Barrier 1 ∷ [])) }
     ensures draws { OnOk result (draws.new.state ≡ state_behind draws.old.state round client) }
 {
     add_drawing(stream, draws, round, client)?;

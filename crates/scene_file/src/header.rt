@@ -3,7 +3,7 @@ ghost use Rattle.std.specs.Prelude.{◌≡◌, ◌↔◌, ◌++◌, IsTrue, IfOk
 ghost use Rattle.byte_codec.specs.Reading.{Gives, Reads};
 ghost use Rattle.rc_base.specs.Formats.Spelling.{IsVersion, magic, list_magic};
 ghost use Rattle.scene_file.specs.Reading.{read_half, read_size, read_times, read_head};
-ghost use Rattle.scene_file.specs.Letters.{BeginWithLists, HasMagic, Letters, plain_letters, list_letters};
+ghost use Rattle.scene_file.specs.Letters.{BeginWithLists, Letters, plain_letters, list_letters};
 ghost use Rattle.scene_file.specs.Faults.{LettersFailBy, MagicFailsBy};
 
 use crate::fault::Broken;
@@ -122,7 +122,8 @@ pub(crate) trait BeginsScene: Sized {
 
     /// The version of a scene by its letters, and what stands behind them.
     fn read_magic(bytes: &[u8]) -> Result<(u8, &[u8]), Broken>
-        ensures found { IfOk result (λ x. HasMagic letters bytes.now x.0 x.1.now) }
+        ensures found { IfOk result (λ x. letters.IsDrawn x.0
+            × (bytes.now ≡ letters.begins x.0 ++ x.1.now)) }
         ensures fails { IfErr result (MagicFailsBy letters bytes.now) };
 }
 

@@ -3,7 +3,8 @@ ghost use Rattle.std.specs.Prelude.{◌≡◌, ◌<◌, ◌≤◌, ◌*◌, ◌�
 ghost use Rattle.std.specs.List.{flat_map};
 ghost use Rattle.rc_base.specs.Formats.Limits.{first_outside, held_limit, limit_of, stream_limit, size_area, side, barrier_count, is_swap_command, swaps_in, least_swaps, commands_in, judged};
 ghost use Rattle.rc_base.specs.declared.command.Command.TheVariants as cmd;
-ghost use Rattle.scene_file.specs.Judging.{IsLimitOfClients, IsLimitOfCommands, IsWindowWithin, Tells, window_part, judge_counts, judge_decl, stream_part, judge_parts, judge_read, judge_scene};
+ghost use Rattle.scene_file.specs.Judging.{IsWindowWithin, Tells, window_part, or_else, one, judge_counts, judge_decl, stream_part, judge_parts};
+ghost use Rattle.rc_base.specs.declared.scene.Scene.{Scene as AnyScene};
 
 use command_store::{CommandForm, CommandStore, StoredScene};
 use rc_base::command::{Command, Commands};
@@ -104,7 +105,7 @@ fn judge_counts(decl: &Decl) -> Result<(), Limit>
 /// What is judged before the commands.
 fn judge_decl(decl: &Decl, clients: usize) -> Result<(), Limit>
     ensures judged { judged result ≡ judge_decl decl.now clients }
-    ensures within { OnOk result (IsWindowWithin decl.now clients) }
+    ensures within { OnOk result (IsWindowWithin decl.now × (clients ≤ 8)) }
 {
     judge_window(decl, clients)?;
     judge_counts(decl)
@@ -112,8 +113,7 @@ fn judge_decl(decl: &Decl, clients: usize) -> Result<(), Limit>
 
 /// The commands and the frames, so many in all.
 fn judge_streams(decl: &Decl, commands: u64, frames: u64) -> Result<(), Limit>
-    requires width { decl.now.width ≤ 2048 }
-    requires height { decl.now.height ≤ 2048 }
+    requires { IsWindowWithin decl.now }
     ensures { judged result ≡ first_outside (stream_part decl.now commands frames) }
 {
     judge(11, commands, 0, MOST_COMMANDS)?;
@@ -136,14 +136,16 @@ pub(crate) fn check_counted(
 
 /// The first quantity outside its range of what is read of a scene with call lists, with this declaration and so many clients and commands.
 pub(crate) fn check_read(decl: &Decl, clients: usize, commands: u64) -> Result<(), Limit>
-    ensures { judged result ≡ judge_read decl.now clients commands }
+    ensures { judged result
+        ≡ or_else (judge_decl decl.now clients) (first_outside (one 11 commands 1048576)) }
 {
     judge_decl(decl, clients)?;
     judge(11, commands, 0, MOST_COMMANDS)
 }
 
 fn judge_scene(scene: &Scene) -> Result<(), Limit>
-    ensures { judged result ≡ judge_scene scene.now }
+    ensures { judged result ≡ judge_parts scene.now.decl (length scene.now.streams)
+        (commands_in scene.now.streams) (least_swaps scene.now.streams) }
 {
     let streams = scene.streams.as_slice();
     judge_decl(&scene.decl, streams.len())?;
@@ -175,8 +177,7 @@ pub fn check_streams(scene: &StoredScene, commands: u64) -> Result<(), Limit>
 }
 
 fn frame_pixels(decl: &Decl, frames: u64) -> u64
-    requires width { decl.now.width ≤ 2048 }
-    requires height { decl.now.height ≤ 2048 }
+    requires window { IsWindowWithin decl.now }
     requires frames { frames ≤ 1048576 }
     ensures { result ≡ frames * (decl.now.width * decl.now.height) }
 {
@@ -246,7 +247,8 @@ pub fn check_held_stored(scene: &StoredScene) -> Result<(), Limit>
 /// The first quantity outside its range of a scene with this declaration and too many clients, whatever their commands are.
 pub fn clients_beyond(decl: &Decl, clients: usize) -> Limit
     requires { 8 < clients }
-    ensures { IsLimitOfClients decl.now clients result }
+    ensures { (s : AnyScene) → s.decl ≡ decl.now → length s.streams ≡ clients
+        → limit_of s ≡ Some result }
 {
     match judge_decl(decl, clients) {
         Err(limit) => limit,
@@ -260,7 +262,8 @@ pub fn clients_beyond(decl: &Decl, clients: usize) -> Limit
 /// The first quantity outside its range of a scene with this declaration and too many commands, whatever they are.
 pub fn commands_beyond(decl: &Decl, clients: usize, commands: u64) -> Limit
     requires { 1048576 < commands }
-    ensures { IsLimitOfCommands decl.now clients commands result }
+    ensures { (s : AnyScene) → s.decl ≡ decl.now → length s.streams ≡ clients
+        → commands_in s.streams ≡ commands → limit_of s ≡ Some result }
 {
     match judge_decl(decl, clients) {
         Err(limit) => limit,

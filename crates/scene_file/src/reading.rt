@@ -9,7 +9,7 @@ ghost use Rattle.byte_codec.specs.Reading.{Reads};
 ghost use Rattle.packet_bytes.specs.Packets.{decoded_as};
 ghost use Rattle.scene_file.specs.Reading.{read_text};
 ghost use Rattle.scene_file.specs.Letters.{form_of};
-ghost use Rattle.scene_file.specs.Faults.{TextFailsBy, SceneFailsBy, HasFields, ReadsEach, TellsEachForm, TellsEachLimit, TellsForm, IsBeyond, IsJudged};
+ghost use Rattle.scene_file.specs.Faults.{TextFailsBy, SceneFailsBy, FailsAsScene, HasFields, ReadsEach, TellsEachForm, TellsEachLimit, TellsForm, IsBeyond, IsJudged, IsReadBy, IsSceneRead};
 ghost use Rattle.scene_file.specs.Counting.{DecodesFirst, Counts, SpellsCounted, counted_as, frames_with};
 
 use crate::fault::{Broken, SceneFault, fault_at, in_stream};
@@ -141,9 +141,7 @@ pub(crate) fn read_judged<K: KeptStream>(
     alloc: Global,
     bytes: &[u8],
 ) -> Result<K::Scene, SceneFault>
-    ensures found { IfOk result (λ s. SpellsScene bytes.now (K.scene s) × (limit_of (K.scene s) ≡ None)) }
-    ensures malformed { IfErr result (TellsForm bytes.now) }
-    ensures limit { IfErr result (IsBeyond bytes.now) }
+    ensures { IsReadBy K.scene SpellsScene limit_of FailsAsScene bytes.now result }
 {
     match K::read_spelled(alloc, bytes) {
         Ok(counted) => within_limits(counted),
@@ -175,22 +173,7 @@ pub fn read_scene(alloc: Global, bytes: &[u8]) -> Result<Scene, SceneFault>
 
 /// What `read_scene` answers, with its commands in less room than a list of them takes.
 pub fn read_stored_scene(alloc: Global, bytes: &[u8]) -> Result<StoredScene, SceneFault>
-    // What is read is spelled so, and within the limits.
-    ensures found { IfOk result (λ s. SpellsScene bytes.now s × (limit_of s ≡ None)) }
-    // Its fields are in their ranges.
-    ensures fields { IfOk result HasFields }
-    // So it is within what every call that takes a scene asks.
-    ensures within { IfOk result IsWithin }
-    // What is spelled so and within the limits is read, unless memory runs out.
-    ensures only { ReadsEach bytes.now result }
-    // Malformed bytes have this fault first from the left, at this place.
-    ensures malformed { IfErr result (TellsForm bytes.now) }
-    // Such bytes are answered so, unless memory runs out.
-    ensures malformed_only { TellsEachForm bytes.now result }
-    // The scene that is spelled has this quantity outside its range, the first in the order of the table.
-    ensures limit { IfErr result (IsBeyond bytes.now) }
-    // Such a scene is answered so, unless memory runs out.
-    ensures limit_only { TellsEachLimit bytes.now result }
+    ensures { IsSceneRead bytes.now result }
 {
     read_judged::<CommandStore>(alloc, bytes)
 }

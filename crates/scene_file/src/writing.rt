@@ -2,8 +2,8 @@
 ghost use Rattle.std.specs.Prelude.{◌≡◌, ◌≤◌, ◌<◌, ◌++◌, ◌^◌, length, IfOk, OnOk, None};
 ghost use Rattle.rc_base.specs.Formats.Limits.{limit_of};
 ghost use Rattle.std.specs.List.{flat_map, AllByRecursion};
-ghost use Rattle.rc_base.specs.Formats.Spelling.{half, size, header, stream_text, encoded, IsSide, IsSize, IsVersion};
-ghost use Rattle.scene_file.specs.Written.{HasSizes, IsReadAgain, IsWritten, AreWhole, IsShort, IsEncoded};
+ghost use Rattle.rc_base.specs.Formats.Spelling.{half, size, header, stream_text, encoded, IsSide, IsSize, IsVersion, SpellsScene, SpellsStream};
+ghost use Rattle.scene_file.specs.Written.{IsWritten, AreWhole, IsShort};
 
 use crate::header::magic_of;
 use packet_bytes::encode;
@@ -37,7 +37,8 @@ fn put_header(bytes: &mut Bytes, decl: &Decl, clients: u8) -> Result<(), OutOfMe
     requires barriers { length decl.now.barriers ≤ 64 }
     requires semaphores { length decl.now.semaphores ≤ 64 }
     ensures added { OnOk result (IsVersion decl.now.version → bytes.new ≡ bytes.old ++ header decl.now clients) }
-    ensures fits { OnOk result (HasSizes decl.now) }
+    ensures fits { OnOk result (AllByRecursion IsSize decl.now.shared
+        × AllByRecursion IsSide decl.now.semaphores) }
 {
     bytes.extend_from_slice(&magic_of(decl.version))?;
     bytes.extend_from_slice(&decl.width.to_le_bytes())?;
@@ -66,7 +67,8 @@ fn length_of(size: usize) -> Result<u32, OutOfMemory>
 fn put_stream(alloc: Global, bytes: &mut Bytes, stream: &Commands) -> Result<(), OutOfMemory>
     ensures added { OnOk result (bytes.new ≡ bytes.old ++ stream_text (encoded stream.now)) }
     ensures short { OnOk result (IsShort stream.now) }
-    ensures spelled { OnOk result (AreWhole stream.now → IsEncoded stream.now) }
+    ensures spelled { OnOk result (AreWhole stream.now
+        → SpellsStream (encoded stream.now) stream.now) }
 {
     let text = encode(alloc, stream)?;
     let length = length_of(text.len())?;
@@ -81,7 +83,8 @@ pub fn write_scene(alloc: Global, scene: &Scene) -> Result<Bytes, OutOfMemory>
     requires { limit_of scene.now ≡ None }
     ensures exact { IfOk result (λ bytes. IsWritten scene.now bytes) }
     // Where each picture has four bytes for each texel, they are read again as this scene.
-    ensures spelled { IfOk result (λ bytes. IsReadAgain scene.now bytes) }
+    ensures spelled { IfOk result (λ bytes. IsVersion scene.now.decl.version
+        → AllByRecursion AreWhole scene.now.streams → SpellsScene bytes scene.now) }
 {
     let streams = scene.streams.as_slice();
     let mut bytes = Bytes::new(alloc);

@@ -4,11 +4,8 @@ use Rattle.rc_base.proofs.WithinLimits.{width_within, height_within, few_frames}
 use Rattle.scene_file.proofs.LimitsByParts.{held_is}
 use Rattle.scene_file.proofs.limits.check_held.Goals as goal
 
-pub frame_pixels-requires-clause-width : goal.frame_pixels-requires-clause-width
-frame_pixels-requires-clause-width c = (width_within c.args.scene.now c.requires).1
-
-pub frame_pixels-requires-clause-height : goal.frame_pixels-requires-clause-height
-frame_pixels-requires-clause-height c = (height_within c.args.scene.now c.requires).1
+pub frame_pixels-requires-clause-window : goal.frame_pixels-requires-clause-window
+frame_pixels-requires-clause-window c = record { width = (width_within c.args.scene.now c.requires).1; height = (height_within c.args.scene.now c.requires).1 }
 
 pub frame_pixels-requires-clause-frames : goal.frame_pixels-requires-clause-frames
 frame_pixels-requires-clause-frames c =

@@ -1,15 +1,14 @@
-use Rattle.std.proofs.Common.{◌≡◌, ℕ, ◌*◌, ◌≤◌, ◌∙◌, [], ◌∷◌, ap, ap₂, subst, sym}
+use Rattle.std.proofs.Common.{◌≡◌, ℕ, ◌*◌, ◌∙◌, [], ◌∷◌, ap, ap₂, subst, sym}
 use Rattle.rc_base.specs.Formats.Limits.{first_outside, held_limit, least_swaps}
 use Rattle.rc_base.specs.declared.scene.Decl.{Decl}
 use Rattle.rc_base.proofs.WithinLimits.{width_within, height_within, few_frames}
+use Rattle.scene_file.specs.Judging.{IsWindowWithin}
 use Rattle.scene_file.proofs.LimitsByParts.{held_is}
 use Rattle.scene_file.proofs.limits.check_held_stored.Goals as goal
 
-pub frame_pixels-requires-clause-width : goal.frame_pixels-requires-clause-width
-frame_pixels-requires-clause-width c = subst (λ (d : Decl). d.width ≤ 2048) (sym c.decl.ensures) (width_within c.args.scene.now c.requires).1
-
-pub frame_pixels-requires-clause-height : goal.frame_pixels-requires-clause-height
-frame_pixels-requires-clause-height c = subst (λ (d : Decl). d.height ≤ 2048) (sym c.decl.ensures) (height_within c.args.scene.now c.requires).1
+pub frame_pixels-requires-clause-window : goal.frame_pixels-requires-clause-window
+frame_pixels-requires-clause-window c =
+    subst IsWindowWithin (sym c.decl.ensures) (record { width = (width_within c.args.scene.now c.requires).1; height = (height_within c.args.scene.now c.requires).1 })
 
 pub frame_pixels-requires-clause-frames : goal.frame_pixels-requires-clause-frames
 frame_pixels-requires-clause-frames c =

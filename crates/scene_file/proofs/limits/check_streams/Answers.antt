@@ -1,9 +1,9 @@
-use Rattle.std.proofs.Common.{◌≡◌, ◌≤◌, ◌∙◌, ap, ap₂, subst, sym, ℕ, List}
+use Rattle.std.proofs.Common.{◌≡◌, ◌∙◌, ap, ap₂, subst, sym, ℕ, List}
 use Rattle.rc_base.specs.Formats.Limits.{first_outside, least_swaps}
 use Rattle.rc_base.specs.declared.command.Command.{Command}
 use Rattle.rc_base.specs.declared.scene.Decl.{Decl}
 use Rattle.rc_base.specs.declared.scene.Scene.{Scene}
-use Rattle.scene_file.specs.Judging.{stream_part}
+use Rattle.scene_file.specs.Judging.{IsWindowWithin, stream_part}
 use Rattle.scene_file.proofs.LimitsByParts.{stored_streams, many_streams}
 use Rattle.scene_file.proofs.limits.check_streams.Goals as goal
 
@@ -12,11 +12,8 @@ told : (s : Scene) (decl : Decl) (commands frames : ℕ) (streams : List (List C
 told s decl commands frames streams declared counted same =
     ap₂ (λ (d : Decl) (n : ℕ). first_outside (stream_part d commands n)) declared (counted ∙ ap least_swaps same)
 
-pub judge_streams-requires-clause-width : goal.judge_streams-requires-clause-width
-judge_streams-requires-clause-width c = subst (λ (d : Decl). d.width ≤ 2048) (sym c.decl.ensures) c.requires.width
-
-pub judge_streams-requires-clause-height : goal.judge_streams-requires-clause-height
-judge_streams-requires-clause-height c = subst (λ (d : Decl). d.height ≤ 2048) (sym c.decl.ensures) c.requires.height
+pub judge_streams-requires : goal.judge_streams-requires
+judge_streams-requires c = subst IsWindowWithin (sym c.decl.ensures) (record { width = c.requires.width; height = c.requires.height })
 
 pub returns-clause-few : goal.returns-clause-few
 returns-clause-few c few =

@@ -7,18 +7,15 @@ use Rattle.scene_file.proofs.lists.read_list_scene.Goals as goal
 
 pub returns-clause-only : goal.returns-clause-only
 returns-clause-only c =
-    let e = c.read_judged.ensures in
-    only_scene SpellsListScene list_limit_of FailsAsListScene one_list_scene fault_no_list_scene one_list_fault c.args.bytes.now c.read_judged.result (record { found = e.found; malformed = e.malformed; limit = e.limit })
+    only_scene SpellsListScene list_limit_of FailsAsListScene one_list_scene fault_no_list_scene one_list_fault c.args.bytes.now c.read_judged.result c.read_judged.ensures
 
 pub returns-clause-malformed_only : goal.returns-clause-malformed_only
 returns-clause-malformed_only c =
-    let e = c.read_judged.ensures in
-    only_malformed SpellsListScene list_limit_of FailsAsListScene one_list_scene fault_no_list_scene one_list_fault c.args.bytes.now c.read_judged.result (record { found = e.found; malformed = e.malformed; limit = e.limit })
+    only_malformed SpellsListScene list_limit_of FailsAsListScene one_list_scene fault_no_list_scene one_list_fault c.args.bytes.now c.read_judged.result c.read_judged.ensures
 
 pub returns-clause-limit_only : goal.returns-clause-limit_only
 returns-clause-limit_only c =
-    let e = c.read_judged.ensures in
-    only_limit SpellsListScene list_limit_of FailsAsListScene one_list_scene fault_no_list_scene one_list_fault c.args.bytes.now c.read_judged.result (record { found = e.found; malformed = e.malformed; limit = e.limit })
+    only_limit SpellsListScene list_limit_of FailsAsListScene one_list_scene fault_no_list_scene one_list_fault c.args.bytes.now c.read_judged.result c.read_judged.ensures
 
 pub returns-clause-fields : goal.returns-clause-fields
 returns-clause-fields c = if_ok_map c.read_judged.result (λ s h. read_typed list_form c.args.bytes.now s.decl s.streams h.0) c.read_judged.ensures.found

@@ -1,17 +1,5 @@
 use Rattle.scene_file.proofs.Answered.{answered}
 use Rattle.scene_file.proofs.reading.read_stored_scene.Goals as goal
 
-pub returns-clause-only : goal.returns-clause-only
-returns-clause-only c = (answered c.args.bytes.now c.read_judged.result c.read_judged.ensures.found c.read_judged.ensures.malformed c.read_judged.ensures.limit).only
-
-pub returns-clause-malformed_only : goal.returns-clause-malformed_only
-returns-clause-malformed_only c = (answered c.args.bytes.now c.read_judged.result c.read_judged.ensures.found c.read_judged.ensures.malformed c.read_judged.ensures.limit).malformed_only
-
-pub returns-clause-limit_only : goal.returns-clause-limit_only
-returns-clause-limit_only c = (answered c.args.bytes.now c.read_judged.result c.read_judged.ensures.found c.read_judged.ensures.malformed c.read_judged.ensures.limit).limit_only
-
-pub returns-clause-fields : goal.returns-clause-fields
-returns-clause-fields c = (answered c.args.bytes.now c.read_judged.result c.read_judged.ensures.found c.read_judged.ensures.malformed c.read_judged.ensures.limit).fields
-
-pub returns-clause-within : goal.returns-clause-within
-returns-clause-within c = (answered c.args.bytes.now c.read_judged.result c.read_judged.ensures.found c.read_judged.ensures.malformed c.read_judged.ensures.limit).within
+pub returns : goal.returns
+returns c = answered c.args.bytes.now c.read_judged.result c.read_judged.ensures

@@ -2,8 +2,8 @@ use Rattle.std.proofs.Common.{◌≤◌, arith, ap, subst, length, map, drop, ge
 use Rattle.std.specs.List.{flat_map}
 use Rattle.rc_base.specs.declared.command.Command.{Command}
 use Rattle.rc_base.specs.Formats.Spelling.{stream_text, encoded}
-use Rattle.scene_file.specs.Written.{written, AreWhole, IsShort, IsEncoded}
-use Rattle.scene_file.proofs.WrittenSpells.{all_at, all_from, within, loop_done}
+use Rattle.scene_file.specs.Written.{written, AreWhole, IsShort}
+use Rattle.scene_file.proofs.WrittenSpells.{IsEncoded, all_at, all_from, within, loop_done}
 use Rattle.scene_file.proofs.writing.write_scene.Goals as goal
 
 pub overflow_cast-streams : goal.overflow_cast-streams

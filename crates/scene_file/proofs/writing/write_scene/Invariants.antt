@@ -1,7 +1,8 @@
 use Rattle.std.proofs.Common.{◌≡◌, ◌++◌, ◌<◌, ℕ, [], drop, map, get_or}
 use Rattle.std.specs.List.{flat_map}
 use Rattle.rc_base.specs.Formats.Spelling.{IsVersion, stream_text, encoded}
-use Rattle.scene_file.specs.Written.{written, AreWhole, IsShort, IsEncoded}
+use Rattle.scene_file.specs.Written.{written, AreWhole, IsShort}
+use Rattle.scene_file.proofs.WrittenSpells.{IsEncoded}
 use Rattle.scene_file.proofs.writing.write_scene.Given as goal
 
 abbrev pub invariant-loop-stream : goal.invariant-loop-stream
