@@ -174,17 +174,9 @@ TellsTooLong spent commands fault.OutOfMemory = Unit {0}
 
 -- ---- what is answered unless memory runs out
 
--- memory ran out
-abbrev pub IsWantOfMemory : ExpandFault → Type 0
-IsWantOfMemory e = e ≡ fault.OutOfMemory
-
 -- the answer is this, or that memory ran out
 abbrev pub AnswersOrLacks : {A : Type 0} → Result A ExpandFault → Result A ExpandFault → Type 0
 AnswersOrLacks result answer = (result ≡ answer) ⊎ (result ≡ Err fault.OutOfMemory)
-
--- the expansion of a stream is given, where the costs are within their limit
-abbrev pub GivesWithin : ℕ → List ListCommand → Result Expansion ExpandFault → Type 0
-GivesWithin spent stream result = spent + costs (met stream) ≤ most_cost → AnswersOrLacks result (Ok (expansion_of stream spent))
 
 -- the sum with which the costs pass the limit is told
 abbrev pub TellsEachSum : {A : Type 0} → ℕ → List ListCommand → Result A ExpandFault → Type 0

@@ -1,6 +1,5 @@
 -- What a stream has given so far, and what some commands more that are met do to it.
 use Rattle.std.specs.Prelude.{◌≡◌, ◌+◌, List, ◌++◌, length, Result, Ok, Err}
-use Rattle.rc_base.specs.declared.command.Command.{Command}
 use Rattle.rc_base.specs.declared.list_command.ListCommand.{ListCommand}
 use Rattle.call_lists.specs.declared.answer.ExpandFault.{ExpandFault}
 use Rattle.call_lists.specs.declared.given.Given.{Given}
@@ -16,10 +15,3 @@ pub record Adds (before after : Given) (commands : List ListCommand) : Type 0 wh
 abbrev pub Meets : Given → Given → List ListCommand → Result (Unit {0}) ExpandFault → Type 0
 Meets before after commands (Ok _) = Adds before after commands
 Meets before after commands (Err e) = TellsTooLong before.spent commands e
-
--- these plain commands were given, as far as there is room for them, and counted
-abbrev pub HasGiven : Given → List Command → Given → Type 0
-HasGiven before commands after = after.commands ≡ stored (before.commands ++ commands)
-
-abbrev pub HasCounted : Given → List Command → Given → Type 0
-HasCounted before commands after = after.count ≡ before.count + length commands

@@ -5,3 +5,4 @@ pub mod Progress
 pub mod Laws
 pub mod Scenes
 pub mod Streams
+pub mod Taking

@@ -4,7 +4,7 @@ use Rattle.rc_base.specs.declared.list_command.ListCommand.{ListCommand}
 use Rattle.rc_base.specs.declared.state.Fault.{Fault}
 use Rattle.call_lists.specs.declared.record.Record.{Record}
 use Rattle.call_lists.specs.declared.standing.Standing.{Standing}
-use Rattle.call_lists.specs.Expansion.{Lists, ListState, fault_at, list_fault, state_after, state_with}
+use Rattle.call_lists.specs.Expansion.{Lists, ListState, fault_at, list_fault, state_after}
 use Rattle.call_lists.specs.Expansion.ListState.{Calling, Recording}
 
 abbrev pub state_with_record : Lists → Option Record → ListState
@@ -17,10 +17,6 @@ state_of s = state_with_record s.lists s.recording
 -- it stands where the command leaves it
 abbrev pub IsAfter : Standing → ListCommand → Standing → Type 0
 IsAfter before command after = state_of after ≡ state_after (state_of before) command
-
--- the same of a list that is being recorded, and the command that it meets
-abbrev pub HasRecorded : Standing → Record → ListCommand → Standing → Type 0
-HasRecorded before begun command after = state_of after ≡ state_with (Recording before.lists begun.name begun.commands) command
 
 -- the command's fault, where it has one, is noted behind the others
 abbrev pub IsNoted : Standing → ℕ → ListCommand → List (ℕ × Fault) → List (ℕ × Fault) → Type 0

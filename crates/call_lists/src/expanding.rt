@@ -1,6 +1,6 @@
 //! The expansion of a stream.
 ghost use Rattle.std.specs.Prelude.{◌≡◌, ◌+◌, ◌≤◌, ◌<◌, ◌^◌, length, Ok, IfOk, IfErr};
-ghost use Rattle.call_lists.specs.Expansion.{GivesWithin, TellsEachSum, expansion_of, met, costs, most_cost, TellsTooLong};
+ghost use Rattle.call_lists.specs.Expansion.{AnswersOrLacks, TellsEachSum, expansion_of, met, costs, most_cost, TellsTooLong};
 
 use crate::answer::{ExpandFault, Expansion};
 use crate::given::Given;
@@ -10,13 +10,22 @@ use rc_base::cluster::FaultList;
 use rc_base::list_command::ListCommands;
 use std::alloc::Global;
 
-/// The expansion, or why there is none, in one direction.
-fn expand_stream(alloc: Global, stream: &ListCommands, spent: u64) -> Result<Expansion, ExpandFault>
+/// What a stream with call lists means, where so much was spent on the streams before it. A command that is met costs one, and one for each byte of
+/// its payload. Calls are followed eight lists deep, so that a list which calls itself ends.
+pub fn expand(alloc: Global, stream: &ListCommands, spent: u64) -> Result<Expansion, ExpandFault>
     requires spent { spent ≤ most_cost }
     requires places { length stream.now < 2 ^ 32 }
+    // What is given is the stream's expansion.
     ensures expanded { IfOk result (λ x. x ≡ expansion_of stream.now spent) }
+    // It is given only where the costs are within their limit.
     ensures within { IfOk result (λ x. spent + costs (met stream.now) ≤ most_cost) }
+    // Where they are, it is given, unless memory runs out.
+    ensures expanded_only { spent + costs (met stream.now) ≤ most_cost
+        → AnswersOrLacks result (Ok (expansion_of stream.now spent)) }
+    // Where it fails otherwise, the costs so far pass the limit at a command, and this is their sum there.
     ensures too_long { IfErr result (TellsTooLong spent (met stream.now)) }
+    // Where they pass it with this sum, the answer is so, unless memory runs out.
+    ensures too_long_only { TellsEachSum spent (met stream.now) result }
 {
     let commands = stream.as_slice();
     let mut standing = Standing::new(alloc)?;
@@ -44,23 +53,4 @@ fn expand_stream(alloc: Global, stream: &ListCommands, spent: u64) -> Result<Exp
         faults,
         spent,
     })
-}
-
-/// What a stream with call lists means, where so much was spent on the streams before it. A command that is met costs one, and one for each byte of
-/// its payload. Calls are followed eight lists deep, so that a list which calls itself ends.
-pub fn expand(alloc: Global, stream: &ListCommands, spent: u64) -> Result<Expansion, ExpandFault>
-    requires spent { spent ≤ most_cost }
-    requires places { length stream.now < 2 ^ 32 }
-    // What is given is the stream's expansion.
-    ensures expanded { IfOk result (λ x. x ≡ expansion_of stream.now spent) }
-    // It is given only where the costs are within their limit.
-    ensures within { IfOk result (λ x. spent + costs (met stream.now) ≤ most_cost) }
-    // Where they are, it is given, unless memory runs out.
-    ensures expanded_only { GivesWithin spent stream.now result }
-    // Where it fails otherwise, the costs so far pass the limit at a command, and this is their sum there.
-    ensures too_long { IfErr result (TellsTooLong spent (met stream.now)) }
-    // Where they pass it with this sum, the answer is so, unless memory runs out.
-    ensures too_long_only { TellsEachSum spent (met stream.now) result }
-{
-    expand_stream(alloc, stream, spent)
 }

@@ -1,7 +1,7 @@
 //! Commands that are met.
 ghost use Rattle.std.specs.Prelude.{◌≡◌, ◌<◌, ◌≤◌, ◌+◌, ◌^◌, [], ◌∷◌, ◌++◌, length, IsTrue, IsFalse, OnOk};
 ghost use Rattle.rc_base.specs.declared.list_command.ListCommand.TheVariants as list;
-ghost use Rattle.call_lists.specs.Giving.{Adds, HasCounted, HasGiven, Meets};
+ghost use Rattle.call_lists.specs.Giving.{Adds, Meets};
 ghost use Rattle.call_lists.specs.Expansion.{stored, plain_of, most_cost};
 
 use crate::answer::ExpandFault;
@@ -38,7 +38,8 @@ impl Given {
     /// Adds a command, where there is room for it, and counts it.
     fn give(&mut self, alloc: Global, command: &Command) -> Result<(), OutOfMemory>
         requires { self.old.count < self.old.spent }
-        ensures given { OnOk result (HasGiven self.old (command.now ∷ []) self.new) }
+        ensures given { OnOk result (self.new.commands
+            ≡ stored (self.old.commands ++ command.now ∷ [])) }
         ensures counted { OnOk result (self.new.count ≡ self.old.count + 1) }
         ensures spent { OnOk result (self.new.spent ≡ self.old.spent) }
     {
@@ -52,8 +53,10 @@ impl Given {
     /// Adds a command that was paid for, if it is a plain one.
     fn give_plain(&mut self, alloc: Global, command: &ListCommand) -> Result<(), OutOfMemory>
         requires { self.old.count < self.old.spent }
-        ensures given { OnOk result (HasGiven self.old (plain_of command.now) self.new) }
-        ensures counted { OnOk result (HasCounted self.old (plain_of command.now) self.new) }
+        ensures given { OnOk result (self.new.commands
+            ≡ stored (self.old.commands ++ plain_of command.now)) }
+        ensures counted { OnOk result (self.new.count
+            ≡ self.old.count + length (plain_of command.now)) }
         ensures spent { OnOk result (self.new.spent ≡ self.old.spent) }
     {
         match command {
@@ -115,25 +118,15 @@ impl Given {
         }
     }
 
-    // The same of any command.
-    #[inline(always)]
-    fn try_meet(&mut self, command: &ListCommand) -> bool
-        ensures met { IsTrue result → Adds self.old self.new (command.now ∷ []) }
-        ensures left { IsFalse result → self.new ≡ self.old }
-    {
-        match command {
-            ListCommand::Plain(plain) => self.meet_short(plain),
-            _ => false,
-        }
-    }
-
     /// Meets a command.
     #[inline(always)]
     pub fn meet(&mut self, alloc: Global, command: &ListCommand) -> Result<(), ExpandFault>
         ensures { Meets self.old self.new (command.now ∷ []) result }
     {
-        if self.try_meet(command) {
-            return Ok(());
+        if let ListCommand::Plain(plain) = command {
+            if self.meet_short(plain) {
+                return Ok(());
+            }
         }
         self.meet_any(alloc, command)
     }

@@ -1,7 +1,8 @@
 //! Where a stream stands.
 ghost use Rattle.std.specs.Prelude.{◌≡◌, IfOk, OnOk, Some, None};
 ghost use Rattle.call_lists.specs.Expansion.{first_state, list_fault, name_fault, state_with};
-ghost use Rattle.call_lists.specs.Standing.{HasRecorded, state_of};
+ghost use Rattle.call_lists.specs.Expansion.ListState.{Recording};
+ghost use Rattle.call_lists.specs.Standing.{state_of};
 
 use crate::body::Body;
 use crate::lists::Lists;
@@ -75,7 +76,8 @@ impl<'a> Standing<'a> {
 
     /// What an accepted command does within a recording: it ends it or is recorded.
     fn record(&mut self, begun: Record<'a>, command: &'a ListCommand) -> Result<(), OutOfMemory>
-        ensures { OnOk result (HasRecorded self.old begun.entry command.now self.new) }
+        ensures { OnOk result (state_of self.new ≡ state_with
+            (Recording self.old.lists begun.entry.name begun.entry.commands) command.now) }
     {
         let Record { name, mut commands } = begun;
         match command {

@@ -1,7 +1,7 @@
 //! The expansions of all clients' streams.
-ghost use Rattle.std.specs.Prelude.{◌≤◌, ◌<◌, ◌^◌, ◌+◌, length, IfOk, IfErr, OnOk};
+ghost use Rattle.std.specs.Prelude.{◌≡◌, ◌≤◌, ◌<◌, ◌^◌, ◌+◌, length, IfOk, IfErr, OnOk};
 ghost use Rattle.std.specs.List.{AllByRecursion};
-ghost use Rattle.call_lists.specs.Expansion.{IsWantOfMemory, TellsEachSum, met, costs, most_cost, TellsTooLong};
+ghost use Rattle.call_lists.specs.Expansion.{TellsEachSum, met, costs, most_cost, TellsTooLong};
 ghost use Rattle.call_lists.specs.Scenes.{met_in, IsShort, AreExpanded};
 ghost use Rattle.call_lists.specs.Streams.{HasExpanded};
 
@@ -53,12 +53,20 @@ fn expand_next(
     Ok(())
 }
 
-/// The expansions of all streams, or why there are none, in one direction.
-fn expand_each(alloc: Global, streams: &ListStreams) -> Result<Expansions, ExpandFault>
+/// What the streams of all clients mean, clients rising, the costs going from one to the next.
+pub fn expand_all(alloc: Global, streams: &ListStreams) -> Result<Expansions, ExpandFault>
     requires { AllByRecursion IsShort streams.now }
+    // What is given are the expansions of the streams.
     ensures expanded { IfOk result (AreExpanded streams.now) }
+    // They are given only where all costs are within their limit.
     ensures within { IfOk result (λ x. x.spent ≤ most_cost) }
+    // Where these are, nothing but memory can lack.
+    ensures expanded_only { costs (met_in streams.now) ≤ most_cost
+        → IfErr result (λ e. e ≡ ExpandFault.OutOfMemory) }
+    // Where it fails otherwise, the costs so far pass the limit at a command of some client, and this is their sum there.
     ensures too_long { IfErr result (TellsTooLong 0 (met_in streams.now)) }
+    // Where they pass it with this sum, the answer is so, unless memory runs out.
+    ensures too_long_only { TellsEachSum 0 (met_in streams.now) result }
 {
     let streams = streams.as_slice();
     let mut so_far = Expansions {
@@ -72,21 +80,4 @@ fn expand_each(alloc: Global, streams: &ListStreams) -> Result<Expansions, Expan
         expand_next(alloc, &mut so_far, stream)?;
     }
     Ok(so_far)
-}
-
-/// What the streams of all clients mean, clients rising, the costs going from one to the next.
-pub fn expand_all(alloc: Global, streams: &ListStreams) -> Result<Expansions, ExpandFault>
-    requires { AllByRecursion IsShort streams.now }
-    // What is given are the expansions of the streams.
-    ensures expanded { IfOk result (AreExpanded streams.now) }
-    // They are given only where all costs are within their limit.
-    ensures within { IfOk result (λ x. x.spent ≤ most_cost) }
-    // Where these are, nothing but memory can lack.
-    ensures expanded_only { costs (met_in streams.now) ≤ most_cost → IfErr result IsWantOfMemory }
-    // Where it fails otherwise, the costs so far pass the limit at a command of some client, and this is their sum there.
-    ensures too_long { IfErr result (TellsTooLong 0 (met_in streams.now)) }
-    // Where they pass it with this sum, the answer is so, unless memory runs out.
-    ensures too_long_only { TellsEachSum 0 (met_in streams.now) result }
-{
-    expand_each(alloc, streams)
 }

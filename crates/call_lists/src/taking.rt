@@ -2,6 +2,7 @@
 ghost use Rattle.std.specs.Prelude.{OnOk};
 ghost use Rattle.call_lists.specs.Expansion.{met_at};
 ghost use Rattle.call_lists.specs.Standing.{IsAfter, IsNoted, state_of};
+ghost use Rattle.call_lists.specs.Taking.{IsTaken};
 ghost use Rattle.call_lists.specs.Giving.{Meets};
 
 use crate::answer::ExpandFault;
@@ -61,9 +62,8 @@ fn take_any<'a>(
     place: u32,
     command: &'a ListCommand,
 ) -> Result<(), ExpandFault>
-    ensures state { OnOk result (IsAfter standing.old command.now standing.new) }
-    ensures faults { OnOk result (IsNoted standing.old place command.now faults.old faults.new) }
-    ensures given { Meets given.old given.new (met_at (state_of standing.old) command.now) result }
+    ensures { IsTaken place command.now standing.old standing.new faults.old faults.new
+        given.old given.new result }
 {
     meet_at(alloc, standing, command, given)?;
     Ok(judge(alloc, standing, faults, place, command)?)
@@ -79,9 +79,8 @@ pub fn take_command<'a>(
     place: u32,
     command: &'a ListCommand,
 ) -> Result<(), ExpandFault>
-    ensures state { OnOk result (IsAfter standing.old command.now standing.new) }
-    ensures faults { OnOk result (IsNoted standing.old place command.now faults.old faults.new) }
-    ensures given { Meets given.old given.new (met_at (state_of standing.old) command.now) result }
+    ensures { IsTaken place command.now standing.old standing.new faults.old faults.new
+        given.old given.new result }
 {
     match (&standing.recording, command) {
         (None, ListCommand::Plain(_)) => given.meet(alloc, command),
