@@ -8,7 +8,7 @@ use Rattle.rc_base.specs.declared.text.LineName.{LineName}
 use Rattle.rc_base.specs.Formats.Limits.{limit_of}
 use Rattle.scene_text.specs.Text.Statements.{Statement, statement, decl_statements, client_statements}
 use Rattle.scene_text.specs.Text.Read.{is_text, is_skipped, words_of, words_say, with_texels, arguments_say, spoken, SpellsText}
-use Rattle.scene_text.specs.Text.Faults.{rank_of, rank_after, rank_after_words, fault_of_line, fault_of_words, fault_under, first_fault, text_fault}
+use Rattle.scene_text.specs.Text.Faults.{may_stand, rank_of, rank_after, rank_after_words, fault_of_line, fault_of_words, fault_under, first_fault, text_fault}
 use Rattle.scene_text.specs.declared.draft.Draft.{Draft}
 use Rattle.scene_text.specs.declared.parse.LineFault.{LineFault}
 use Rattle.scene_text.specs.declared.parse.LineFault.TheVariants as fault
@@ -31,6 +31,17 @@ pub record IsDraft (d : Draft) : Type 0 where
   pub semaphores : d.rank < 4 → d.decl.semaphores ≡ []
   pub streams : d.rank < 5 → d.streams ≡ []
   pub stream : d.rank < 5 → d.stream ≡ []
+
+-- it is one whose last line's rank is one of these
+pub record IsDraftWithin (from to : ℕ) (d : Draft) : Type 0 where
+  pub draft : IsDraft d
+  pub least : from ≤ d.rank
+  pub most : d.rank ≤ to
+
+-- it is one behind which a line of this name may stand
+pub record IsOpenTo (name : LineName) (d : Draft) : Type 0 where
+  pub draft : IsDraft d
+  pub place : may_stand d.rank name ≡ true
 
 -- one more statement is read
 pub record Adds (old new : Draft) (s : Statement) : Type 0 where

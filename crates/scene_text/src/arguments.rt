@@ -1,12 +1,11 @@
 //! What a name and the words after it say.
-ghost use Rattle.std.specs.Prelude.{◌≡◌, ◌≤◌, ◌∷◌, [], length, take, true, false, IfOk};
+ghost use Rattle.std.specs.Prelude.{◌≡◌, ◌≤◌, ◌∷◌, [], length, take, false, IfOk};
 ghost use Rattle.rc_base.specs.Formats.Commands.{picture_area};
 ghost use Rattle.scene_text.specs.Text.Statements.{line_ranges, line_has_picture};
 ghost use Rattle.scene_text.specs.Text.Read.{is_counted, is_rest_count, words_of, numbers_of, has_version, with_texels, arguments_say};
-ghost use Rattle.scene_text.specs.Text.Faults.{may_stand};
 ghost use Rattle.rc_base.specs.declared.text.LineName.{LineName as AnyLineName};
 ghost use Rattle.command_table.specs.Ranges.{AreIn};
-ghost use Rattle.scene_text.specs.Drafts.{IsDraft, ReadsStatement, TexelsRead};
+ghost use Rattle.scene_text.specs.Drafts.{IsOpenTo, ReadsStatement, TexelsRead};
 
 use crate::draft::{Draft, add_line};
 use crate::hex::spelled_texels;
@@ -91,8 +90,7 @@ pub(crate) fn read_arguments(
     name: LineName,
     words: &[u8],
 ) -> Result<(), LineFault>
-    requires draft { IsDraft draft.old }
-    requires place { may_stand draft.old.rank name ≡ true }
+    requires { IsOpenTo name draft.old }
     ensures { ReadsStatement draft.old draft.new result (arguments_say name (words_of words.now)) }
 {
     if !is_counted(name, words) {
@@ -120,8 +118,7 @@ fn read_statement(
     numbers: &[i32],
     rest: &[u8],
 ) -> Result<(), LineFault>
-    requires draft { IsDraft draft.old }
-    requires place { may_stand draft.old.rank name ≡ true }
+    requires place { IsOpenTo name draft.old }
     requires numbers { AreIn (line_ranges name) numbers.now }
     requires rest { line_has_picture name ≡ false → words_of rest.now ≡ [] }
     ensures { ReadsStatement draft.old draft.new result (with_texels name (words_of rest.now) numbers.now) }

@@ -1,9 +1,8 @@
 //! What is read of a scene so far.
-ghost use Rattle.std.specs.Prelude.{◌≡◌, ◌∷◌, [], ◌++◌, ◌≤◌, pos, false, true, OnOk, IfOk};
+ghost use Rattle.std.specs.Prelude.{◌≡◌, ◌∷◌, [], ◌++◌, ◌≤◌, pos, false, OnOk, IfOk};
 ghost use Rattle.scene_text.specs.Text.Statements.{statement, shared_statement, barrier_statement, semaphore_statement, command_statement, line_ranges, line_has_picture, scene_statements};
-ghost use Rattle.scene_text.specs.Text.Faults.{may_stand};
 ghost use Rattle.command_table.specs.Ranges.{AreIn};
-ghost use Rattle.scene_text.specs.Drafts.{IsDraft, Adds, said};
+ghost use Rattle.scene_text.specs.Drafts.{IsDraft, IsDraftWithin, IsOpenTo, Adds, said};
 
 use crate::declared::{count_of, size_of, units_of, window_of};
 use command_table::command_of;
@@ -70,8 +69,7 @@ fn set_window(draft: &mut Draft, version: u8, width: u16, height: u16)
 }
 
 fn add_shared(draft: &mut Draft, size: [u16; 2]) -> Result<(), OutOfMemory>
-    requires draft { IsDraft draft.old }
-    requires place { (1 ≤ draft.old.rank) × (draft.old.rank ≤ 2) }
+    requires { IsDraftWithin 1 2 draft.old }
     ensures { OnOk result (Adds draft.old draft.new (shared_statement size)) }
 {
     draft.decl.shared.push(size)?;
@@ -80,8 +78,7 @@ fn add_shared(draft: &mut Draft, size: [u16; 2]) -> Result<(), OutOfMemory>
 }
 
 fn add_barrier(draft: &mut Draft, count: u8) -> Result<(), OutOfMemory>
-    requires draft { IsDraft draft.old }
-    requires place { (1 ≤ draft.old.rank) × (draft.old.rank ≤ 3) }
+    requires { IsDraftWithin 1 3 draft.old }
     ensures { OnOk result (Adds draft.old draft.new (barrier_statement count)) }
 {
     draft.decl.barriers.push(count)?;
@@ -90,8 +87,7 @@ fn add_barrier(draft: &mut Draft, count: u8) -> Result<(), OutOfMemory>
 }
 
 fn add_semaphore(draft: &mut Draft, units: u16) -> Result<(), OutOfMemory>
-    requires draft { IsDraft draft.old }
-    requires place { (1 ≤ draft.old.rank) × (draft.old.rank ≤ 4) }
+    requires { IsDraftWithin 1 4 draft.old }
     ensures { OnOk result (Adds draft.old draft.new (semaphore_statement units)) }
 {
     draft.decl.semaphores.push(units)?;
@@ -101,8 +97,7 @@ fn add_semaphore(draft: &mut Draft, units: u16) -> Result<(), OutOfMemory>
 
 /// Begins the next client.
 fn open_client(alloc: Global, draft: &mut Draft) -> Result<(), OutOfMemory>
-    requires draft { IsDraft draft.old }
-    requires place { 1 ≤ draft.old.rank }
+    requires { IsDraftWithin 1 5 draft.old }
     ensures { OnOk result (Adds draft.old draft.new (statement LineName.Client [] [])) }
 {
     if draft.rank < 5 {
@@ -130,8 +125,7 @@ pub(crate) fn add_line(
     numbers: &[i32],
     texels: Texels,
 ) -> Result<(), OutOfMemory>
-    requires draft { IsDraft draft.old }
-    requires place { may_stand draft.old.rank name ≡ true }
+    requires place { IsOpenTo name draft.old }
     requires numbers { AreIn (line_ranges name) numbers.now }
     requires texels { line_has_picture name ≡ false → texels ≡ [] }
     ensures { OnOk result (Adds draft.old draft.new (statement name numbers.now texels)) }

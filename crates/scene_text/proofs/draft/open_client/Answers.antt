@@ -3,7 +3,7 @@ use Rattle.scene_text.proofs.DraftsGrow.{adds_first_client, adds_client}
 use Rattle.scene_text.proofs.draft.open_client.Goals as goal
 
 pub returns-then-draft-lt5 : goal.returns-then-draft-lt5
-returns-then-draft-lt5 c = adds_first_client c.args.draft.now c.requires.draft c.requires.place c.if-draft-lt5.true
+returns-then-draft-lt5 c = adds_first_client c.args.draft.now c.requires.draft c.requires.least c.if-draft-lt5.true
 
 pub returns : goal.returns
 returns c =
