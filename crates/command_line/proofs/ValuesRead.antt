@@ -10,9 +10,18 @@ use Rattle.std.proofs.lemmas.Fmt.{decimal_injective}
 use Rattle.command_line.specs.Words.{Setting, IsSetting, tiles_in, depth_in, order_in, seed_in, size_in}
 use Rattle.command_line.specs.declared.job.OptionName.TheVariants.{Tiles, Depth, Seed, Size}
 use Rattle.command_line.specs.Words.Setting.{TilesOf, DepthOf, WithOrder, SeedOf, SizeOf}
-use Rattle.command_line.specs.Lines.{ReadsNumber, ReadsTiles}
 use Rattle.command_line.specs.Texts.{text_in}
 use Rattle.command_line.proofs.Numbers.{same_tiles}
+
+-- n is the number of the text, and the default where there is none
+pub record ReadsNumber (text : Option (List ℕ)) (default n : ℕ) : Type 0 where
+  pub none : text ≡ None → n ≡ default
+  pub some : (m : ℕ) → m < 2 ^ 64 → text ≡ Some (decimal m) → n ≡ m
+
+-- t are the numbers of the text, and 1 and 1 where there is none
+pub record ReadsTiles (text : Option (List ℕ)) (t : ℕ × ℕ) : Type 0 where
+  pub none : text ≡ None → t ≡ (1, 1)
+  pub some : (c r : ℕ) → c < 2 ^ 64 → r < 2 ^ 64 → text ≡ Some (decimal c ++ (codes "x" ++ decimal r)) → t ≡ (c, r)
 
 pub map_ok : {T E : Type 0} {P Q : T → Type 0} (r : Result T E) → IfOk r P → ((v : T) → P v → Q v) → IfOk r Q
 map_ok (Ok v) h f = f v h

@@ -1,6 +1,5 @@
 -- What a line is read as.
-use Rattle.std.specs.Prelude.{◌≡◌, ℕ, ◌<◌, ◌^◌, ◌++◌, List, Option, None, Some, codes}
-use Rattle.std.specs.Fmt.{decimal}
+use Rattle.std.specs.Prelude.{◌≡◌, ℕ, List}
 use Rattle.command_line.specs.Words.{Setting, IsCommandLine, tiles_in, depth_in, order_in, seed_in, size_in}
 use Rattle.command_line.specs.declared.line.CommandLine.{CommandLine}
 use Rattle.command_line.specs.declared.values.Settings.{Settings}
@@ -18,13 +17,3 @@ pub record IsLineOf (words : List (List ℕ)) (c : CommandLine) : Type 0 where
   pub settings : List Setting
   pub line : IsCommandLine words c.job settings
   pub values : AreValues c.settings settings
-
--- n is the number of the text, and the default where there is none
-pub record ReadsNumber (text : Option (List ℕ)) (default n : ℕ) : Type 0 where
-  pub none : text ≡ None → n ≡ default
-  pub some : (m : ℕ) → m < 2 ^ 64 → text ≡ Some (decimal m) → n ≡ m
-
--- t are the numbers of the text, and 1 and 1 where there is none
-pub record ReadsTiles (text : Option (List ℕ)) (t : ℕ × ℕ) : Type 0 where
-  pub none : text ≡ None → t ≡ (1, 1)
-  pub some : (c r : ℕ) → c < 2 ^ 64 → r < 2 ^ 64 → text ≡ Some (decimal c ++ (codes "x" ++ decimal r)) → t ≡ (c, r)

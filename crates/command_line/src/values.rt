@@ -3,7 +3,7 @@ ghost use Rattle.std.specs.Prelude.{◌≡◌, ℕ, ◌<◌, ◌^◌, ◌++◌, 
 ghost use Rattle.std.specs.Fmt.{decimal};
 ghost use Rattle.std.specs.List.{AllByRecursion};
 ghost use Rattle.command_line.specs.Words.{Setting, IsSetting};
-ghost use Rattle.command_line.specs.Lines.{AreValues, ReadsNumber, ReadsTiles};
+ghost use Rattle.command_line.specs.Lines.{AreValues};
 ghost use Rattle.command_line.specs.Texts.{HasTexts};
 
 use crate::number::{number, tiles};
@@ -28,7 +28,9 @@ pub struct Settings {
 
 // The number of the text, or the default where there is none.
 fn number_or(text: Option<&str>, default: u64) -> u64
-    ensures { ReadsNumber (option_map (λ t. t.now) text.entry) default result }
+    ensures none { option_map (λ t. t.now) text.entry ≡ None → result ≡ default }
+    ensures some { (m : ℕ) → m < 2 ^ 64 → option_map (λ t. t.now) text.entry ≡ Some (decimal m)
+        → result ≡ m }
 {
     match text {
         None => default,
@@ -38,7 +40,9 @@ fn number_or(text: Option<&str>, default: u64) -> u64
 
 // The columns and rows of the text, or one tile where there is none.
 fn tiles_or_one(text: Option<&str>) -> (u64, u64)
-    ensures { ReadsTiles (option_map (λ t. t.now) text.entry) result }
+    ensures none { option_map (λ t. t.now) text.entry ≡ None → result ≡ (1, 1) }
+    ensures some { (c r : ℕ) → c < 2 ^ 64 → r < 2 ^ 64 → option_map (λ t. t.now) text.entry
+        ≡ Some (decimal c ++ (codes "x" ++ decimal r)) → result ≡ (c, r) }
 {
     match text {
         None => (1, 1),
