@@ -172,6 +172,11 @@ IsWholeAct (act.Shared part) = length part.texels ≡ 4 * (part.w * part.h)
 IsWholeAct (act.Sync op) = Unit {0}
 IsWholeAct act.End = Unit {0}
 
+-- sets that a parcel may have: at most 255, each with a value of its element's kind
+pub record ArePackable (sets : List ElementSet) : Type 0 where
+  pub few : length sets ≤ 255
+  pub whole : AllByRecursion IsWholeSet sets
+
 -- A parcel that can be packed: at most 255 sets, each value of its element's kind, at most 65,535 vertices, four bytes for each texel.
 pub record IsPackable (p : Parcel) : Type 0 where
   pub few : length p.sets ≤ 255

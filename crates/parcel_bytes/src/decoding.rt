@@ -24,9 +24,13 @@ fn fault_at(error: ReadError, len: usize) -> ParcelFault
     }
 }
 
-// The parcel at the front, where nothing follows it.
-fn read_whole(alloc: Global, bytes: &[u8]) -> Result<Parcel, ParcelFault>
+/// The parcel that the bytes spell, or the first fault from the left with its place, in bytes from the start.
+pub fn decode_parcel(alloc: Global, bytes: &[u8]) -> Result<Parcel, ParcelFault>
+    // What is read is spelled so.
     ensures found { IfOk result (SpellsParcel bytes.now) }
+    // What is spelled so is read, unless memory runs out.
+    ensures only { (p : AnyParcel) → SpellsParcel bytes.now p → (result ≡ Ok p) ⊎ (result ≡ Err ParcelFault.OutOfMemory) }
+    // The fault is the first one from the left.
     ensures fails { IfErr result (FailsAsParcel bytes.now) }
 {
     match read_parcel(alloc, bytes) {
@@ -41,16 +45,4 @@ fn read_whole(alloc: Global, bytes: &[u8]) -> Result<Parcel, ParcelFault>
         }
         Err(error) => Err(fault_at(error, bytes.len())),
     }
-}
-
-/// The parcel that the bytes spell, or the first fault from the left with its place, in bytes from the start.
-pub fn decode_parcel(alloc: Global, bytes: &[u8]) -> Result<Parcel, ParcelFault>
-    // What is read is spelled so.
-    ensures found { IfOk result (SpellsParcel bytes.now) }
-    // What is spelled so is read, unless memory runs out.
-    ensures only { (p : AnyParcel) → SpellsParcel bytes.now p → (result ≡ Ok p) ⊎ (result ≡ Err ParcelFault.OutOfMemory) }
-    // The fault is the first one from the left.
-    ensures fails { IfErr result (FailsAsParcel bytes.now) }
-{
-    read_whole(alloc, bytes)
 }

@@ -4,7 +4,7 @@ ghost use Rattle.std.specs.Int.{w32};
 ghost use Rattle.std.specs.List.{flat_map, AllByRecursion};
 ghost use Rattle.rc_base.specs.Formats.Spelling.{half, long, word};
 ghost use Rattle.parcel_bytes.specs.Fronts.{IsWritten};
-ghost use Rattle.parcel_bytes.specs.Spelling.{IsAct, IsColor, IsPackable, IsPart, IsOp, IsSet, IsValue, IsVertex, IsWholeAct, IsWholeSet, IsWholeValue, act_bytes, color_bytes, flag_bytes, op_bytes, part_bytes, set_bytes, value_bytes, vertex_bytes};
+ghost use Rattle.parcel_bytes.specs.Spelling.{ArePackable, IsAct, IsColor, IsPackable, IsPart, IsOp, IsSet, IsValue, IsVertex, IsWholeAct, IsWholeSet, IsWholeValue, act_bytes, color_bytes, flag_bytes, op_bytes, part_bytes, set_bytes, value_bytes, vertex_bytes};
 
 use byte_codec::writing::{write_byte, write_bytes, write_half, write_long, write_word};
 use rc_base::command::{Bytes, Part, Rgba};
@@ -246,8 +246,7 @@ pub(crate) struct Written {
 
 // What stands before the act, behind these bytes of the place.
 fn write_front(out: &mut Bytes, place: &[u8], sets: &[ElementSet]) -> Result<(), OutOfMemory>
-    requires few { length sets.now ≤ 255 }
-    requires whole { AllByRecursion IsWholeSet sets.now }
+    requires { ArePackable sets.now }
     ensures added { OnOk result (out.new ≡ out.old ++ (place.now ++ (length sets.now ∷ flat_map set_bytes sets.now))) }
     ensures typed { OnOk result (AllByRecursion IsSet sets.now) }
 {
@@ -264,8 +263,7 @@ fn front_of(
     sets: &[ElementSet],
 ) -> Result<Bytes, OutOfMemory>
     requires empty { front ≡ [] }
-    requires few { length sets.now ≤ 255 }
-    requires whole { AllByRecursion IsWholeSet sets.now }
+    requires sets { ArePackable sets.now }
     ensures front { IfOk result (λ front. front ≡ long place ++ (length sets.now ∷ flat_map set_bytes sets.now)) }
     ensures typed { OnOk result ((place < 2 ^ 32) × AllByRecursion IsSet sets.now) }
 {
@@ -295,8 +293,7 @@ pub(crate) fn front_with(
     sets: &[ElementSet],
 ) -> Result<Bytes, OutOfMemory>
     requires place { 4 ≤ length bytes.now }
-    requires few { length sets.now ≤ 255 }
-    requires whole { AllByRecursion IsWholeSet sets.now }
+    requires sets { ArePackable sets.now }
     ensures front { IfOk result (λ front. front ≡ take 4 bytes.now ++ (length sets.now ∷ flat_map set_bytes sets.now)) }
     ensures typed { OnOk result (AllByRecursion IsSet sets.now) }
 {
