@@ -20,7 +20,7 @@ use Rattle.plain_lemmas.proofs.Places.{next_row}
 use Rattle.scene_lemmas.proofs.Rectangles.{inside_rect}
 use Rattle.draw_device.specs.Pixels.{pixel_at, color_at, depth_at, pixels_of}
 use Rattle.raster.specs.Clips.{IsPartWhere, is_let_through}
-use Rattle.draw_device.specs.Columns.{place_in, column_fragment, IsColumnCovered, IsColumnStepped, IsColumnColored, IsColumnDrawn, IsRiseAt, IsOnlyRun, column_of}
+use Rattle.draw_device.specs.Columns.{place_in, column_fragment, is_column_inside, IsColumnStepped, IsColumnColored, IsColumnDrawn, IsRiseAt, IsOnlyRun, column_of}
 use Rattle.draw_device.specs.Loops.{StoresColor}
 use Rattle.draw_device.specs.Plans.{AreStored}
 use Rattle.draw_device.proofs.Lists.{length_pixels, pixel_in}
@@ -54,7 +54,7 @@ pub colored_end : (g : ℕ → Rgba) (r : ColumnRun) (y to : ℕ) (old now : Lis
 colored_end g r y to old now e d = subst (λ (n : ℕ). IsColumnColored g r n old now) e d
 
 -- a column whose colours alone are stored
-pub column_stored : (s : State) (v : List WindowVertex) (g : ℕ → Rgba) (r : ColumnRun) (old new : List Rgba) → StoresColor s → HasDepths v → IsColumnCovered v r
+pub column_stored : (s : State) (v : List WindowVertex) (g : ℕ → Rgba) (r : ColumnRun) (old new : List Rgba) → StoresColor s → HasDepths v → ((k : ℕ) → r.from ≤ k → k < r.to → is_column_inside v r k ≡ true)
     → ((k : ℕ) → r.from ≤ k → k < r.to → g k ≡ (column_fragment v r k).color) → IsColumnColored g r r.to old new → IsColumnDrawn s None v r old new
 column_stored s v g r old new kind ranged covered colors d ds e = record {
   size = length_pixels new ds (e ∙ sym d.size) ∙ d.size ∙ sym (length_pixels old ds e);
@@ -219,7 +219,7 @@ covered_rows v part c x y n e low high =
     let h = n.high in
     n.exact x y (omega (arith, ints)) (omega (arith, ints)) (omega (arith, ints)) (omega (arith, ints)) ∙ test_yes c x y e low high
 
-pub only_covered : (v : List WindowVertex) (g : Extent) (part : Rect) (r : ColumnRun) → IsOnlyRun v g part r → IsColumnCovered v r
+pub only_covered : (v : List WindowVertex) (g : Extent) (part : Rect) (r : ColumnRun) → IsOnlyRun v g part r → (k : ℕ) → r.from ≤ k → k < r.to → is_column_inside v r k ≡ true
 only_covered v g part r o k low high = covered_rows v part (column_of r) _ _ o.only refl (omega (arith, ints)) (omega (arith, ints))
 
 -- the rows of the only column lie in the grid

@@ -20,7 +20,7 @@ use Rattle.plain_lemmas.proofs.Places.{next_row}
 use Rattle.scene_lemmas.proofs.Rectangles.{inside_rect}
 use Rattle.draw_device.specs.Pixels.{pixel_at}
 use Rattle.raster.specs.Clips.{IsPartWhere, is_let_through}
-use Rattle.draw_device.specs.Shapes.{column_at, row_at, grid_rect, span_has, span_step, fragment_pixel, tried_pixel, cleared_pixel, covered_step, IsRowStepped, IsStepped, IsSteppedBelow, IsSpanIn, IsCovered}
+use Rattle.draw_device.specs.Shapes.{column_at, row_at, grid_rect, span_has, span_step, fragment_pixel, tried_pixel, cleared_pixel, covered_step, IsRowStepped, IsStepped, IsSteppedBelow, IsSpanIn}
 use Rattle.draw_device.specs.declared.grid.Extent.{Extent}
 
 -- ---- one span
@@ -301,7 +301,7 @@ span_in v g part test y s n low p =
       right = omega (arith, ints);
     }
 
-pub span_covered : (v : List WindowVertex) (rect : Rect) (y : ℤ) (s : Span) → IsNextSpan v rect y s → IsCovered v s
+pub span_covered : (v : List WindowVertex) (rect : Rect) (y : ℤ) (s : Span) → IsNextSpan v rect y s → (x : ℤ) → s.x0 ≤ℤ x → x <ℤ s.x1 → is_inside v x s.y ≡ true
 span_covered v rect y s n x low high =
     let left = n.span.low in
     let right = n.span.high in

@@ -9,9 +9,8 @@ use Rattle.rc_base.specs.declared.window.Fragment.{Fragment}
 use Rattle.rc_base.specs.declared.window.Pixel.{Pixel}
 use Rattle.rc_base.specs.declared.window.Rect.{Rect}
 use Rattle.rc_base.specs.declared.window.WindowVertex.{WindowVertex}
-use Rattle.raster.specs.Colors.{IsColorPlane, IsColorRise}
+use Rattle.raster.specs.Colors.{IsColorRise}
 use Rattle.raster.specs.Spans.{IsOnlyColumn}
-use Rattle.raster.specs.declared.color.ColorPlane.{ColorPlane}
 use Rattle.raster.specs.declared.color.ColorRamp.{ColorRamp}
 use Rattle.raster.specs.declared.column.Column.{Column}
 use Rattle.draw_device.specs.Pixels.{pixel_at, color_at, pixels_of}
@@ -40,10 +39,6 @@ pub record IsColumnRun (r : ColumnRun) : Type 0 where
   pub order : r.from ≤ r.to
   pub inside : r.across < r.width
   pub few : r.across + r.to < 2 ^ 12
-
--- the triangle covers the rows
-abbrev pub IsColumnCovered : List WindowVertex → ColumnRun → Type 0
-IsColumnCovered v r = (k : ℕ) → r.from ≤ k → k < r.to → is_column_inside v r k ≡ true
 
 -- the run's column of the window
 abbrev pub column_of : ColumnRun → Column
@@ -79,8 +74,3 @@ pub record IsColumnColored (color : ℕ → Rgba) (r : ColumnRun) (to : ℕ) (ol
 -- the triangle's colour at row k of the column
 abbrev pub IsRiseAt : List WindowVertex → ColumnRun → ℕ → ColorRamp → Type 0
 IsRiseAt v r k ramp = IsColorRise v (pos (r.left + r.across)) (pos (r.bottom + k)) (1 + r.across + k) ramp
-
--- what a plane of colours has at the column's first row
-abbrev pub IsRiseStart : ColorPlane → ColumnRun → ColorRamp → Type 0
-IsRiseStart plane r ramp =
-    (v : List WindowVertex) → IsColorPlane v (pos r.left) (pos r.bottom) plane → IsRiseAt v r r.from ramp

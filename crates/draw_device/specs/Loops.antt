@@ -1,24 +1,22 @@
 -- What the loops over a run of pixels take and leave.
-use Rattle.std.specs.Prelude.{◌≡◌, ℕ, ◌+◌, ◌<◌, ◌≤◌, length, List, Bool, Option, Some, None, ℤ, pos, true, if◌then◌else◌}
+use Rattle.std.specs.Prelude.{◌≡◌, ℕ, ◌+◌, ◌^◌, ◌<◌, ◌≤◌, length, List, Bool, Option, Some, None, ℤ, pos, true}
 use Rattle.rc_base.specs.Colors.{rgba}
 use Rattle.rc_base.specs.Pictures.{Picture}
 use Rattle.rc_base.specs.Drawing.Cover.{is_inside}
 use Rattle.rc_base.specs.Drawing.Fragment.{fragment_of}
-use Rattle.rc_base.specs.Drawing.PixelStep.{fragment_color, fragment_step, shaded, textured, written_color, passes_alpha}
+use Rattle.rc_base.specs.Drawing.PixelStep.{fragment_color, fragment_step, shaded, written_color, passes_alpha}
 use Rattle.rc_base.specs.Drawing.Texel.{texel_of, wrap_in_s, wrap_in_t}
 use Rattle.rc_base.specs.declared.command.Rgba.{Rgba}
 use Rattle.rc_base.specs.declared.state.State.{State}
 use Rattle.rc_base.specs.declared.window.Fragment.{Fragment}
 use Rattle.rc_base.specs.declared.window.Pixel.{Pixel}
 use Rattle.rc_base.specs.declared.window.WindowVertex.{WindowVertex}
-use Rattle.raster.specs.Colors.{IsColorPlane, IsColorRamp}
-use Rattle.raster.specs.Planes.{IsWordPlane, IsWordRamp}
-use Rattle.raster.specs.declared.color.ColorPlane.{ColorPlane}
+use Rattle.raster.specs.Colors.{IsColorRamp}
+use Rattle.raster.specs.Planes.{IsWordRamp}
 use Rattle.raster.specs.declared.color.ColorRamp.{ColorRamp}
-use Rattle.raster.specs.declared.word_plane.WordPlane.{WordPlane}
 use Rattle.raster.specs.declared.word_plane.WordRamp.{WordRamp}
 use Rattle.fragment_ops.specs.AlphaTests.{keeps_alpha}
-use Rattle.fragment_ops.specs.Blends.{masked_by, mixed_color}
+use Rattle.fragment_ops.specs.Blends.{mixed_color}
 use Rattle.fragment_ops.specs.DepthTests.{IsDepthTest, pixel}
 use Rattle.fragment_ops.specs.declared.alpha.AlphaTest.{AlphaTest}
 use Rattle.fragment_ops.specs.declared.depth.DepthTest.{DepthTest}
@@ -44,6 +42,28 @@ AreCovered v left row from to = (k : ℕ) → from ≤ k → k < to → is_insid
 abbrev pub IsRunCovered : List WindowVertex → Run → Type 0
 IsRunCovered v r = AreCovered v r.left r.row r.from r.to
 
+-- columns `from` to below `to` are in order, and a row of so many columns has them
+pub record AreColumnsOf (width from to : ℕ) : Type 0 where
+  pub order : from ≤ to
+  pub room : to ≤ width
+
+-- the same of two rows
+pub record AreColumnsOfBoth (width other from to : ℕ) : Type 0 where
+  pub order : from ≤ to
+  pub room : to ≤ width
+  pub beside : to ≤ other
+
+-- columns `from` to below `to` are in order, and the colours and depths are of one row, which has them
+pub record IsRowWith (from to : ℕ) (colors : List Rgba) (depths : List ℕ) : Type 0 where
+  pub order : from ≤ to
+  pub inside : to ≤ length colors
+  pub alike : length depths ≡ length colors
+
+-- the triangle covers column k of the run's row, and no step of a plane that leads there is one too many
+pub record IsReached (v : List WindowVertex) (r : Run) (k : ℕ) : Type 0 where
+  pub inside : is_inside v (pos (r.left + k)) (pos r.row) ≡ true
+  pub few : 1 + k + r.up < 2 ^ 12
+
 -- the colours and depths are of one row, which has the run, and the triangle covers the run
 pub record IsCoveredRow (v : List WindowVertex) (r : Run) (colors : List Rgba) (depths : List ℕ) : Type 0 where
   pub inside : r.to ≤ length colors
@@ -53,9 +73,7 @@ pub record IsCoveredRow (v : List WindowVertex) (r : Run) (colors : List Rgba) (
 -- the colours and depths are of the row that lies `up` rows above the grid's first, and the triangle covers columns `from` to below `to` of it
 pub record IsGridRow (v : List WindowVertex) (g : Extent) (up from to : ℕ) (colors : List Rgba) (depths : List ℕ) : Type 0 where
   pub top : g.bottom + up ≤ 65535
-  pub order : from ≤ to
-  pub inside : to ≤ length colors
-  pub alike : length depths ≡ length colors
+  pub row : IsRowWith from to colors depths
   pub covered : AreCovered v g.left (g.bottom + up) from to
 
 -- the row's pixels after the fragments of a triangle
@@ -95,20 +113,11 @@ IsValueAt v r f k ramp = IsWordRamp v (pos (r.left + k)) (pos r.row) f (1 + k + 
 abbrev pub IsDepthAt : List WindowVertex → Run → ℕ → WordRamp → Type 0
 IsDepthAt v r k ramp = IsValueAt v r (λ (c : WindowVertex). c.z) k ramp
 
-abbrev pub IsSAt : List WindowVertex → Run → ℕ → WordRamp → Type 0
-IsSAt v r k ramp = IsValueAt v r (λ (c : WindowVertex). c.s) k ramp
-
-abbrev pub IsTAt : List WindowVertex → Run → ℕ → WordRamp → Type 0
-IsTAt v r k ramp = IsValueAt v r (λ (c : WindowVertex). c.t) k ramp
-
--- what a plane has at the run's first column: its colours, and an attribute's values
-abbrev pub IsColorStart : ColorPlane → Run → ColorRamp → Type 0
-IsColorStart plane r ramp =
-    (v : List WindowVertex) → IsColorPlane v (pos r.left) (pos r.bottom) plane → IsColorAt v r r.from ramp
-
-abbrev pub IsValueStart : WordPlane → Run → WordRamp → Type 0
-IsValueStart plane r ramp =
-    (v : List WindowVertex) (f : WindowVertex → ℤ) → IsWordPlane v (pos r.left) (pos r.bottom) f plane → IsValueAt v r f r.from ramp
+-- the triangle covers the run, a row of colours has it, and the ramp has the triangle's colour at its first column
+pub record IsRampAlong (v : List WindowVertex) (r : Run) (colors : List Rgba) (first : ColorRamp) : Type 0 where
+  pub room : r.to ≤ length colors
+  pub covered : IsRunCovered v r
+  pub ramp : IsColorAt v r r.from first
 
 -- of a fragment its colour alone is stored
 abbrev pub StoresColor : State → Type 0
@@ -127,23 +136,12 @@ pub record IsColorRun (step : ℕ → Rgba → Rgba) (from to : ℕ) (old new : 
 abbrev pub IsRunColored : Run → (ℕ → Rgba → Rgba) → List Rgba → List Rgba → Type 0
 IsRunColored r step = IsColorRun step r.from r.to
 
--- a colour at column k written over the stored one there, mixed with it by the blend factors, or by the flags of a colour mask
+-- a colour at column k written over the stored one there, or mixed with it by the blend factors
 abbrev pub written_over : State → List Rgba → ℕ → Rgba → Rgba
 written_over s stored k color = written_color s color (color_at stored k)
 
 abbrev pub mixed_over : Blending → List Rgba → ℕ → Rgba → Rgba
 mixed_over b stored k color = mixed_color b.state.now color (color_at stored k)
-
-abbrev pub masked_over : List Bool → List Rgba → ℕ → Rgba → Rgba
-masked_over flags stored k color = masked_by flags color (color_at stored k)
-
--- the other colour at column k where its flag is on
-abbrev pub chosen_over : List Bool → List Rgba → ℕ → Rgba → Rgba
-chosen_over flags others k color = if flag_at flags k then color_at others k else color
-
--- the run's colours after the texture stage, over texels
-abbrev pub AreTextured : State → List WindowVertex → Run → List Rgba → List Rgba → Type 0
-AreTextured s v r = IsRunColored r (λ k texel. textured s (run_color v r k) texel)
 
 -- the depths of columns `from` to below `to` are one, and the others are as before
 pub record IsDepthRun (depth from to : ℕ) (old new : List ℕ) : Type 0 where

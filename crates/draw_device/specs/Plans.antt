@@ -125,12 +125,9 @@ IsTests s v x y tests.Alpha = AreAlphaTested s v
 IsTests s v x y (tests.Both plane) = HasDepthPlane v x y plane
 IsTests s v x y (tests.Any plane) = IsDepthPlane v x y plane
 
--- from the setup's pixel on they are made so, and take these tests
+-- from the setup's pixel on they are made so
 abbrev pub IsSourceFrom : State → Option Picture → List WindowVertex → TriangleSetup → Source → Type 0
 IsSourceFrom s p v setup source = (x y : ℤ) → IsTriangleSetup v x y setup → IsSource s p v x y source
-
-abbrev pub IsTestsFrom : State → List WindowVertex → TriangleSetup → Tests → Type 0
-IsTestsFrom s v setup tests = (x y : ℤ) → IsTriangleSetup v x y setup → IsTests s v x y tests
 
 -- the fragments' colours alone are stored
 pub record AreStored (s : State) (p : Option Picture) (v : List WindowVertex) : Type 0 where

@@ -10,19 +10,14 @@ use Rattle.rc_base.specs.declared.triangle.WindowTriangle.{WindowTriangle}
 use Rattle.rc_base.specs.declared.window.Pixel.{Pixel}
 use Rattle.rc_base.specs.declared.window.Rect.{Rect}
 use Rattle.rc_base.specs.declared.window.WindowVertex.{WindowVertex}
-use Rattle.geometry.specs.Listed.{listed}
-use Rattle.geometry.specs.declared.cache.VertexCache.{VertexCache}
 use Rattle.raster.specs.Clips.{IsPartWhere, is_let_through}
-use Rattle.raster.specs.Colors.{IsColorPlane}
-use Rattle.raster.specs.declared.color.ColorPlane.{ColorPlane}
 use Rattle.raster.specs.declared.word_plane.WordPlane.{WordPlane}
 use Rattle.textures.specs.Samplers.{IsSampler}
 use Rattle.textures.specs.declared.sampler.Sampler.{Sampler}
 use Rattle.draw_device.specs.Columns.{IsOnlyRun}
-use Rattle.draw_device.specs.Pixels.{pixels_of}
-use Rattle.draw_device.specs.Loops.{AreColors, AreFlags, AreWritten, run_fragment, texel_for}
-use Rattle.draw_device.specs.Plans.{AreDepthTested, AreStages, AreStored, AreTexels, IsPaint, IsShading, IsSource, IsTests}
-use Rattle.draw_device.specs.Shapes.{IsRowChanged, IsRunStepped, cleared_pixel, corners_step, covered_step, drawn_step, fragment_pixel, grid_rect, triangles_step, tried_pixel}
+use Rattle.draw_device.specs.Loops.{AreColors, AreFlags, AreWritten, IsCoveredRow, IsRunCovered, run_fragment, texel_for}
+use Rattle.draw_device.specs.Plans.{AreDepthTested, AreStored, AreTexels, IsPaint, IsShading, IsSource, IsTests}
+use Rattle.draw_device.specs.Shapes.{IsRowChanged, cleared_pixel, corners_step, covered_step, drawn_step, fragment_pixel, grid_rect, triangles_step, tried_pixel}
 use Rattle.draw_device.specs.declared.block_setup.BlockSetup.{BlockSetup}
 use Rattle.draw_device.specs.declared.clear_setup.ClearSetup.{ClearSetup}
 use Rattle.draw_device.specs.declared.column_run.ColumnRun.{ColumnRun}
@@ -33,7 +28,6 @@ use Rattle.draw_device.specs.declared.run.Run.{Run}
 use Rattle.draw_device.specs.declared.setup.Setup.{Setup}
 use Rattle.draw_device.specs.declared.shading.Shading.{Shading}
 use Rattle.draw_device.specs.declared.source.Source.{Source}
-use Rattle.draw_device.specs.declared.stages.Stages.{Stages}
 use Rattle.draw_device.specs.declared.tests.Tests.{Tests}
 
 -- ---- a block's setup: steps of pixels, each with its state and its texture
@@ -49,10 +43,6 @@ corners_of b = corners_step b.state.now b.texture.now
 -- after triangles, one after the other
 abbrev pub triangles_of : BlockSetup → List (List WindowVertex) → ℤ → ℤ → Pixel → Pixel
 triangles_of b = triangles_step b.state.now b.texture.now
-
--- after the triangle of three vertices of a cache, where it is kept
-abbrev pub cached_of : BlockSetup → VertexCache → List ℕ → ℤ → ℤ → Pixel → Pixel
-cached_of b cache = corners_of b (listed cache.vertices)
 
 -- after the kept pieces of the triangle of three of a block's vertices
 abbrev pub pieces_of : BlockSetup → Block → List ℕ → ℤ → ℤ → Pixel → Pixel
@@ -75,10 +65,6 @@ pub record IsPaintIn (b : BlockSetup) (g : Extent) (tri : WindowTriangle) (paint
 -- the part of a grid's rectangle that lets a state's draws through
 abbrev pub IsDrawnPart : State → Extent → Rect → Type 0
 IsDrawnPart s g part = IsPartWhere (grid_rect g) part (is_let_through s)
-
--- the colours of a triangle from the grid's first pixel on
-abbrev pub IsGridPlane : List WindowVertex → Extent → ColorPlane → Type 0
-IsGridPlane v g = IsColorPlane v (pos g.left) (pos g.bottom)
 
 -- ---- a triangle's setup
 
@@ -131,9 +117,6 @@ IsSourceOf t r = IsSource t.state.now t.texture.now t.tri.now.v (pos r.left) (po
 abbrev pub IsTestsOf : Setup → Run → Tests → Type 0
 IsTestsOf t r = IsTests t.state.now t.tri.now.v (pos r.left) (pos r.bottom)
 
-abbrev pub AreStagesOf : Setup → Run → Stages → Type 0
-AreStagesOf t r = AreStages t.state.now t.texture.now t.tri.now.v (pos r.left) (pos r.bottom)
-
 -- they take the depth test alone, by this plane
 abbrev pub AreDepthTestedBy : Setup → Run → WordPlane → Type 0
 AreDepthTestedBy t r = AreDepthTested t.state.now t.tri.now.v (pos r.left) (pos r.bottom)
@@ -145,6 +128,23 @@ IsSamplerOf t = IsSampler t.texture.now (wrap_in_s t.state.now) (wrap_in_t t.sta
 -- the sampler has the texels, and the planes are those of the coordinates
 abbrev pub AreTexelsOf : Setup → Run → Sampler → WordPlane → WordPlane → Type 0
 AreTexelsOf t r = AreTexels t.state.now t.texture.now t.tri.now.v (pos r.left) (pos r.bottom)
+
+-- the triangle covers the run, a row of colours has it, and these are its texels and its planes
+pub record AreTexelsAlong (t : Setup) (r : Run) (colors : List Rgba) (k : Sampler) (ss ts : WordPlane) : Type 0 where
+  pub room : r.to ≤ length colors
+  pub covered : IsRunCovered t.tri.now.v r
+  pub texels : AreTexelsOf t r k ss ts
+
+-- a sampler of the setup's texture, and the texture coordinates of the fragment at column k
+pub record IsSampledAt (setup : Setup) (r : Run) (k : ℕ) (sampler : Sampler) (s t : ℤ) : Type 0 where
+  pub image : IsSamplerOf setup sampler
+  pub across : s ≡ (run_fragment setup.tri.now.v r k).s
+  pub up : t ≡ (run_fragment setup.tri.now.v r k).t
+
+-- its image repeats along both sides
+pub record RepeatsBothWays (k : Sampler) : Type 0 where
+  pub across : k.wrap_s ≡ 0
+  pub up : k.wrap_t ≡ 0
 
 -- the texel of the fragment at column k
 abbrev pub run_texel : Setup → Run → ℕ → Rgba
@@ -158,6 +158,11 @@ AreColorsOf t = AreColors t.state.now t.texture.now t.tri.now.v
 pub record AreLaidIn (t : Setup) (r : Run) (colors : List Rgba) : Type 0 where
   pub room : r.to ≤ length colors
   pub colored : AreColorsOf t r colors
+
+-- the triangle covers the run of a row of pixels, and these are the colours of its fragments
+pub record IsRowLaid (t : Setup) (r : Run) (colors : List Rgba) (depths : List ℕ) (made : List Rgba) : Type 0 where
+  pub row : IsCoveredRow t.tri.now.v r colors depths
+  pub laid : AreLaidIn t r made
 
 -- or those that are to be written over the stored ones
 abbrev pub AreWrittenOf : Setup → Run → List Rgba → List Rgba → Type 0
@@ -182,20 +187,7 @@ pub record IsRowPut (t : Setup) (r : Run) (old : Spare) (colors : List Rgba) (de
 abbrev pub IsWindowRowDrawn : Setup → ℕ → ℕ → ℕ → List Rgba → List ℕ → List Rgba → List ℕ → Type 0
 IsWindowRowDrawn t row = IsRowChanged (fragment_by t) t.extent.left row
 
--- after those of them that the triangle covers
-abbrev pub IsWindowRowTried : Setup → ℕ → ℕ → ℕ → List Rgba → List ℕ → List Rgba → List ℕ → Type 0
-IsWindowRowTried t row = IsRowChanged (tried_by t) t.extent.left row
-
--- the same of the row that lies `up` rows above the grid's first
-abbrev pub IsRowDrawnUp : Setup → ℕ → ℕ → ℕ → List Rgba → List ℕ → List Rgba → List ℕ → Type 0
-IsRowDrawnUp t up = IsWindowRowDrawn t (t.extent.bottom + up)
-
 -- after a Clear of columns `from` to below `to`, wherever the row stands
 abbrev pub IsRowCleared : ClearSetup → ℕ → ℕ → List Rgba → List ℕ → List Rgba → List ℕ → Type 0
 IsRowCleared c from to colors depths new_colors new_depths =
     (left row : ℕ) → IsRowChanged (cleared_pixel c.state.now c.mask) left row from to colors depths new_colors new_depths
-
--- the pixels alone
-abbrev pub IsRunCleared : ClearSetup → ℕ → ℕ → List Rgba → List ℕ → List Rgba → List ℕ → Type 0
-IsRunCleared c from to colors depths new_colors new_depths =
-    (left row : ℕ) → IsRunStepped (cleared_pixel c.state.now c.mask) left row from to (pixels_of colors depths) (pixels_of new_colors new_depths)

@@ -84,10 +84,6 @@ pub record IsSpanIn (g : Extent) (s : Span) : Type 0 where
 abbrev pub grid_span : Extent → ℕ → ℕ → ℕ → Span
 grid_span g up from to = record { y = row_at g up; x0 = column_at g from; x1 = column_at g to }
 
--- the triangle covers the span
-abbrev pub IsCovered : List WindowVertex → Span → Type 0
-IsCovered v s = (x : ℤ) → s.x0 ≤ℤ x → x <ℤ s.x1 → is_inside v x s.y ≡ true
-
 -- the spans to come are all of those of a triangle in a part of the window
 pub record AreRowsOf (tri : WindowTriangle) (part : Rect) (rows : SpanIter) : Type 0 where
   pub triangle : rows.tri.now ≡ tri

@@ -1,6 +1,7 @@
 //! A row of flags: which of its fragments pass the alpha test; and colours by such flags.
 ghost use Rattle.std.specs.Prelude.{◌≡◌, ◌≤◌, length, if◌then◌else◌};
-ghost use Rattle.draw_device.specs.Loops.{IsColorRun, IsFlagRun, alpha_passes, chosen_over};
+ghost use Rattle.draw_device.specs.Loops.{AreColumnsOfBoth, IsColorRun, IsFlagRun, alpha_passes};
+ghost use Rattle.draw_device.specs.Pixels.{color_at, flag_at};
 
 use fragment_ops::AlphaTest;
 use rc_base::command::Rgba;
@@ -8,9 +9,7 @@ use rc_base::command::Rgba;
 /// Flags the colours whose alpha passes.
 #[inline(never)]
 pub(crate) fn flag_passing(flags: &mut [bool], colors: &[Rgba], test: AlphaTest, from: u16, to: u16)
-    requires order { from ≤ to }
-    requires room { to ≤ length flags.old }
-    requires colors { to ≤ length colors.now }
+    requires { AreColumnsOfBoth (length flags.old) (length colors.now) from to }
     ensures { IsFlagRun (alpha_passes test colors.now) from to flags.old flags.new }
 {
     for x in from..to {
@@ -34,11 +33,10 @@ pub(crate) fn choose_colors(
     from: u16,
     to: u16,
 )
-    requires order { from ≤ to }
-    requires room { to ≤ length colors.old }
-    requires others { to ≤ length others.now }
+    requires columns { AreColumnsOfBoth (length colors.old) (length others.now) from to }
     requires flags { to ≤ length flags.now }
-    ensures { IsColorRun (chosen_over flags.now others.now) from to colors.old colors.new }
+    ensures { IsColorRun (λ k old. if flag_at flags.now k then color_at others.now k else old)
+        from to colors.old colors.new }
 {
     for x in from..to {
         let place = x as usize;

@@ -2,7 +2,7 @@
 ghost use Rattle.std.specs.Prelude.{◌≡◌, ℕ, ◌+◌, ◌<◌, ◌≤◌, true, length};
 ghost use Rattle.rc_base.specs.Drawing.Serial.{blank_pixel};
 ghost use Rattle.rc_base.specs.Drawing.Window.{depth_most};
-ghost use Rattle.draw_device.specs.Beside.{EachIn, StayBefore, StayBehind};
+ghost use Rattle.draw_device.specs.Beside.{AreFarBefore, AreFarBehind, EachIn, StayBefore, StayBehind};
 ghost use Rattle.draw_device.specs.Grids.{IsFarAt, grid_pixel};
 ghost use Rattle.draw_device.specs.Pixels.{depth_at, paired};
 
@@ -45,8 +45,7 @@ fn are_far(depths: &[u32], from: usize) -> bool
 
 // A place before which nothing is nearer than the far end. The first such place is less than a step from it, or there is none in a whole step.
 fn passed_front(depths: &[u32]) -> usize
-    ensures most { result ≤ length depths.now }
-    ensures far { (k : ℕ) → k < result → depth_at depths.now k ≡ depth_most }
+    ensures { AreFarBefore depths.now result }
 {
     let steps = depths.len() / STEP;
     for step in 0..steps {
@@ -60,9 +59,7 @@ fn passed_front(depths: &[u32]) -> usize
 // A place behind which nothing is so.
 fn passed_back(depths: &[u32], from: usize) -> usize
     requires { from ≤ length depths.now }
-    ensures order { from ≤ result }
-    ensures most { result ≤ length depths.now }
-    ensures far { EachIn result (length depths.now) (λ k. depth_at depths.now k ≡ depth_most) }
+    ensures { AreFarBehind depths.now from result }
 {
     let count = depths.len();
     let steps = (count - from) / STEP;
@@ -77,8 +74,7 @@ fn passed_back(depths: &[u32], from: usize) -> usize
 
 // The first place whose depth is nearer than the far end, or the number of all.
 fn drawn_start(depths: &[u32]) -> usize
-    ensures most { result ≤ length depths.now }
-    ensures far { (k : ℕ) → k < result → depth_at depths.now k ≡ depth_most }
+    ensures { AreFarBefore depths.now result }
 {
     let count = depths.len();
     for k in passed_front(depths)..count {
@@ -92,9 +88,7 @@ fn drawn_start(depths: &[u32]) -> usize
 // The place behind the last such one, or the first place that is looked at.
 fn drawn_end(depths: &[u32], from: usize) -> usize
     requires { from ≤ length depths.now }
-    ensures order { from ≤ result }
-    ensures most { result ≤ length depths.now }
-    ensures far { EachIn result (length depths.now) (λ k. depth_at depths.now k ≡ depth_most) }
+    ensures { AreFarBehind depths.now from result }
 {
     let end = passed_back(depths, from);
     for passed in 0..end - from {

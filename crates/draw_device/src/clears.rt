@@ -1,8 +1,8 @@
 //! A row of a Clear. Where it writes all of a pixel, colours and depths go in a loop each, eight at a time.
 ghost use Rattle.std.specs.Prelude.{◌≡◌, ◌+◌, ◌≤◌, length, true};
 ghost use Rattle.fragment_ops.specs.Clearings.{writes_pixel};
-ghost use Rattle.draw_device.specs.Loops.{IsColorRun, IsDepthRun};
-ghost use Rattle.draw_device.specs.Setups.{IsRowCleared, IsRunCleared};
+ghost use Rattle.draw_device.specs.Loops.{AreColumnsOf, IsColorRun, IsDepthRun, IsRowWith};
+ghost use Rattle.draw_device.specs.Setups.{IsRowCleared};
 
 use crate::clear_setup::ClearSetup;
 use crate::colors::fill_colors;
@@ -11,8 +11,7 @@ use rc_base::window::Pixel;
 
 // One depth.
 fn fill_depths(depths: &mut [u32], from: u16, to: u16, depth: u32)
-    requires order { from ≤ to }
-    requires room { to ≤ length depths.old }
+    requires { AreColumnsOf (length depths.old) from to }
     ensures { IsDepthRun depth from to depths.old depths.new }
 {
     for x in from..to {
@@ -45,8 +44,7 @@ fn set_eight_depths(depths: &mut [u32], at: usize, depth: u32)
 // One colour, in blocks of eight columns, and the rest of the row in a plain loop.
 #[inline(never)]
 fn clear_colors(colors: &mut [Rgba], from: u16, to: u16, color: Rgba)
-    requires order { from ≤ to }
-    requires room { to ≤ length colors.old }
+    requires { AreColumnsOf (length colors.old) from to }
     ensures { IsColorRun (λ k old. color) from to colors.old colors.new }
 {
     let mut x = from;
@@ -60,8 +58,7 @@ fn clear_colors(colors: &mut [Rgba], from: u16, to: u16, color: Rgba)
 // The same of a depth.
 #[inline(never)]
 fn clear_depths(depths: &mut [u32], from: u16, to: u16, depth: u32)
-    requires order { from ≤ to }
-    requires room { to ≤ length depths.old }
+    requires { AreColumnsOf (length depths.old) from to }
     ensures { IsDepthRun depth from to depths.old depths.new }
 {
     let mut x = from;
@@ -75,9 +72,7 @@ fn clear_depths(depths: &mut [u32], from: u16, to: u16, depth: u32)
 // Clears the columns from `from` to below `to` of a row where the Clear writes all of a pixel.
 fn fill_clear(colors: &mut [Rgba], depths: &mut [u32], setup: &ClearSetup<'_>, from: u16, to: u16)
     requires whole { writes_pixel setup.now.clearing ≡ true }
-    requires order { from ≤ to }
-    requires colors { to ≤ length colors.old }
-    requires depths { length depths.old ≡ length colors.old }
+    requires row { IsRowWith from to colors.old depths.old }
     ensures { IsRowCleared setup.now from to colors.old depths.old colors.new depths.new }
 {
     let cleared = setup.clearing.pixel();
@@ -87,9 +82,7 @@ fn fill_clear(colors: &mut [Rgba], depths: &mut [u32], setup: &ClearSetup<'_>, f
 
 // Clears the columns from `from` to below `to` of a row, whatever the Clear writes.
 fn clear_run(colors: &mut [Rgba], depths: &mut [u32], setup: &ClearSetup<'_>, from: u16, to: u16)
-    requires order { from ≤ to }
-    requires colors { to ≤ length colors.old }
-    requires depths { length depths.old ≡ length colors.old }
+    requires { IsRowWith from to colors.old depths.old }
     ensures { IsRowCleared setup.now from to colors.old depths.old colors.new depths.new }
 {
     for x in from..to {
@@ -111,12 +104,8 @@ pub(crate) fn clear_row(
     from: u16,
     to: u16,
 )
-    requires order { from ≤ to }
-    requires colors { to ≤ length colors.old }
-    requires depths { length depths.old ≡ length colors.old }
-    ensures colors { length colors.new ≡ length colors.old }
-    ensures depths { length depths.new ≡ length depths.old }
-    ensures drawn { IsRunCleared setup.now from to colors.old depths.old colors.new depths.new }
+    requires { IsRowWith from to colors.old depths.old }
+    ensures { IsRowCleared setup.now from to colors.old depths.old colors.new depths.new }
 {
     if setup.clearing.writes_pixel() {
         fill_clear(colors, depths, setup, from, to);

@@ -1,13 +1,14 @@
 //! A row of colours: those of a triangle's fragments after the texture stage.
-ghost use Rattle.std.specs.Prelude.{◌≡◌, ◌≤◌, length};
+ghost use Rattle.std.specs.Prelude.{◌≡◌, length};
+ghost use Rattle.rc_base.specs.Drawing.PixelStep.{textured};
 ghost use Rattle.draw_device.specs.Pixels.{color_at};
-ghost use Rattle.draw_device.specs.Loops.{run_color, run_fragment, AreTextured, IsRunCovered, IsColorAt, IsColorRun, IsRunColored};
+ghost use Rattle.draw_device.specs.Loops.{run_color, AreColumnsOf, AreColumnsOfBoth, IsColorRun, IsRampAlong, IsRunColored};
 ghost use Rattle.draw_device.specs.Plans.{Modulates};
-ghost use Rattle.draw_device.specs.Setups.{AreTexelsOf, IsSamplerOf, run_texel};
+ghost use Rattle.draw_device.specs.Setups.{AreTexelsAlong, IsSampledAt, RepeatsBothWays, run_texel};
 
 use crate::run::Run;
 use crate::setup::Setup;
-use crate::stepped::{color_by, s_by, t_by, value_ramp};
+use crate::stepped::{color_by, value_by, value_ramp};
 use fragment_ops::modulate;
 use raster::{ColorRamp, WordPlane};
 use rc_base::command::Rgba;
@@ -18,8 +19,7 @@ use textures::Sampler;
 /// One colour. The row is given by its numbers and not by a `Run`: small triangles are mostly such rows, and a number goes over in a register.
 #[inline(never)]
 pub(crate) fn fill_colors(colors: &mut [Rgba], from: u16, to: u16, color: Rgba)
-    requires order { from ≤ to }
-    requires room { to ≤ length colors.old }
+    requires { AreColumnsOf (length colors.old) from to }
     ensures { IsColorRun (λ k old. color) from to colors.old colors.new }
 {
     for x in from..to {
@@ -30,9 +30,7 @@ pub(crate) fn fill_colors(colors: &mut [Rgba], from: u16, to: u16, color: Rgba)
 /// The colours of another row.
 #[inline(never)]
 pub(crate) fn copy_colors(colors: &mut [Rgba], others: &[Rgba], from: u16, to: u16)
-    requires order { from ≤ to }
-    requires room { to ≤ length colors.old }
-    requires others { to ≤ length others.now }
+    requires { AreColumnsOfBoth (length colors.old) (length others.now) from to }
     ensures { IsColorRun (λ k old. color_at others.now k) from to colors.old colors.new }
 {
     for x in from..to {
@@ -43,9 +41,7 @@ pub(crate) fn copy_colors(colors: &mut [Rgba], others: &[Rgba], from: u16, to: u
 /// The triangle's colours, by one addition a channel and pixel.
 #[inline(never)]
 pub(crate) fn step_colors(colors: &mut [Rgba], tri: &WindowTriangle, run: Run, first: ColorRamp)
-    requires room { run.to ≤ length colors.old }
-    requires covered { IsRunCovered tri.now.v run }
-    requires ramp { IsColorAt tri.now.v run run.from first }
+    requires { IsRampAlong tri.now.v run colors.old first }
     ensures { IsRunColored run (λ k old. run_color tri.now.v run k) colors.old colors.new }
 {
     let mut ramp = first;
@@ -58,9 +54,7 @@ pub(crate) fn step_colors(colors: &mut [Rgba], tri: &WindowTriangle, run: Run, f
 // The texel at a texture coordinate.
 #[inline(always)]
 fn texel(sampler: Sampler<'_>, setup: &Setup<'_>, run: Run, x: u16, s: i32, t: i32) -> Rgba
-    requires sampler { IsSamplerOf setup.now sampler }
-    requires s { s ≡ (run_fragment setup.now.tri.now.v run x).s }
-    requires t { t ≡ (run_fragment setup.now.tri.now.v run x).t }
+    requires { IsSampledAt setup.now run x sampler s t }
     ensures { result ≡ run_texel setup.now run x }
 {
     let _setup = setup;
@@ -71,11 +65,8 @@ fn texel(sampler: Sampler<'_>, setup: &Setup<'_>, run: Run, x: u16, s: i32, t: i
 // The same of an image that repeats along both sides.
 #[inline(always)]
 fn repeated_texel(sampler: Sampler<'_>, setup: &Setup<'_>, run: Run, x: u16, s: i32, t: i32) -> Rgba
-    requires sampler { IsSamplerOf setup.now sampler }
-    requires across { sampler.wrap_s ≡ 0 }
-    requires up { sampler.wrap_t ≡ 0 }
-    requires s { s ≡ (run_fragment setup.now.tri.now.v run x).s }
-    requires t { t ≡ (run_fragment setup.now.tri.now.v run x).t }
+    requires place { IsSampledAt setup.now run x sampler s t }
+    requires repeated { RepeatsBothWays sampler }
     ensures { result ≡ run_texel setup.now run x }
 {
     let _setup = setup;
@@ -93,16 +84,14 @@ pub(crate) fn texel_colors(
     t_plane: &WordPlane,
     run: Run,
 )
-    requires room { run.to ≤ length colors.old }
-    requires covered { IsRunCovered setup.now.tri.now.v run }
-    requires texels { AreTexelsOf setup.now run sampler s_plane.now t_plane.now }
+    requires { AreTexelsAlong setup.now run colors.old sampler s_plane.now t_plane.now }
     ensures { IsRunColored run (λ k old. run_texel setup.now run k) colors.old colors.new }
 {
     let mut ss = value_ramp(s_plane, run);
     let mut ts = value_ramp(t_plane, run);
     for x in run.from..run.to {
-        let s = s_by(&ss, setup.tri, run, x);
-        let t = t_by(&ts, setup.tri, run, x);
+        let s = value_by(&ss, setup.tri, run, x);
+        let t = value_by(&ts, setup.tri, run, x);
         colors[x as usize] = texel(sampler, setup, run, x, s, t);
         ss.advance();
         ts.advance();
@@ -119,18 +108,15 @@ pub(crate) fn repeat_colors(
     t_plane: &WordPlane,
     run: Run,
 )
-    requires room { run.to ≤ length colors.old }
-    requires across { sampler.wrap_s ≡ 0 }
-    requires up { sampler.wrap_t ≡ 0 }
-    requires covered { IsRunCovered setup.now.tri.now.v run }
-    requires texels { AreTexelsOf setup.now run sampler s_plane.now t_plane.now }
+    requires along { AreTexelsAlong setup.now run colors.old sampler s_plane.now t_plane.now }
+    requires repeated { RepeatsBothWays sampler }
     ensures { IsRunColored run (λ k old. run_texel setup.now run k) colors.old colors.new }
 {
     let mut ss = value_ramp(s_plane, run);
     let mut ts = value_ramp(t_plane, run);
     for x in run.from..run.to {
-        let s = s_by(&ss, setup.tri, run, x);
-        let t = t_by(&ts, setup.tri, run, x);
+        let s = value_by(&ss, setup.tri, run, x);
+        let t = value_by(&ts, setup.tri, run, x);
         colors[x as usize] = repeated_texel(sampler, setup, run, x, s, t);
         ss.advance();
         ts.advance();
@@ -146,11 +132,10 @@ pub(crate) fn tint_colors(
     run: Run,
     first: ColorRamp,
 )
-    requires room { run.to ≤ length colors.old }
-    requires covered { IsRunCovered tri.now.v run }
+    requires along { IsRampAlong tri.now.v run colors.old first }
     requires kind { Modulates state.now }
-    requires ramp { IsColorAt tri.now.v run run.from first }
-    ensures { AreTextured state.now tri.now.v run colors.old colors.new }
+    ensures { IsRunColored run (λ k texel. textured state.now (run_color tri.now.v run k) texel)
+        colors.old colors.new }
 {
     let _state = state;
     let mut ramp = first;

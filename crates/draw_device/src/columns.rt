@@ -1,6 +1,8 @@
 //! Triangles that stand in one column of pixels, as most of a fine mesh do: their colours go up the column by one addition a channel and pixel.
-ghost use Rattle.std.specs.Prelude.{◌≡◌, ◌+◌, ◌*◌, ◌^◌, ◌<◌, ◌≤◌, nat_lt, length, true};
-ghost use Rattle.draw_device.specs.Columns.{place_in, column_color, is_column_inside, IsColumnRun, IsColumnCovered, IsColumnColored, IsRiseAt, IsRiseStart};
+ghost use Rattle.std.specs.Prelude.{◌≡◌, ℕ, ◌+◌, ◌*◌, ◌^◌, ◌<◌, ◌≤◌, nat_lt, length, List, pos, true};
+ghost use Rattle.rc_base.specs.declared.window.WindowVertex.{WindowVertex};
+ghost use Rattle.raster.specs.Colors.{IsColorPlane};
+ghost use Rattle.draw_device.specs.Columns.{place_in, column_color, is_column_inside, IsColumnRun, IsColumnColored, IsRiseAt};
 
 use crate::column_run::ColumnRun;
 use raster::{ColorPlane, ColorRamp};
@@ -28,7 +30,8 @@ fn color_up(ramp: &ColorRamp, tri: &WindowTriangle, run: ColumnRun, y: u16) -> R
 
 /// The colours of a plane from the column's first row on.
 pub(crate) fn color_rise(plane: &ColorPlane, run: ColumnRun) -> ColorRamp
-    ensures { IsRiseStart plane.now run result }
+    ensures { (v : List WindowVertex) → IsColorPlane v (pos run.left) (pos run.bottom) plane.now
+        → IsRiseAt v run run.from result }
 {
     plane.rise(u64::from(run.across), u64::from(run.from))
 }
@@ -56,7 +59,8 @@ pub(crate) fn step_column(
 )
     requires run { IsColumnRun run }
     requires room { run.to * run.width ≤ length colors.old }
-    requires covered { IsColumnCovered tri.now.v run }
+    requires covered { (k : ℕ) → run.from ≤ k → k < run.to
+        → is_column_inside tri.now.v run k ≡ true }
     requires ramp { IsRiseAt tri.now.v run run.from first }
     ensures { IsColumnColored (column_color tri.now.v run) run run.to colors.old colors.new }
 {

@@ -10,7 +10,7 @@ ghost use Rattle.rc_base.specs.declared.window.Pixel.{Pixel};
 ghost use Rattle.draw_device.specs.Active.{FitAmong, IsLayer};
 ghost use Rattle.draw_device.specs.Conditions.{IsDrawable, IsClearable, TakesBlock, sampled_of};
 ghost use Rattle.draw_device.specs.Devices.{AreNear, IsDeviceRect, IsBlankIn, EachTakes, part_of, rect_size, pixel_of};
-ghost use Rattle.draw_device.specs.Beside.{IsBlankBeside, IsFarBeside};
+ghost use Rattle.draw_device.specs.Beside.{EachBeside, IsFarBeside};
 ghost use Rattle.draw_device.specs.Grids.{blank_view};
 ghost use Rattle.draw_device.specs.Pixels.{color_at, pixel_at};
 ghost use Rattle.draw_device.specs.Prepared.{IsPreparedFor};
@@ -183,7 +183,8 @@ impl Device {
     pub fn blank(&mut self, run: PixelRun)
         requires order { run.from ≤ run.to }
         requires inside { run.to ≤ rect_size self.old.rect }
-        requires beside { IsBlankBeside run self.old }
+        requires beside { EachBeside run self.old.rect
+            (λ x y. pixel_of self.old x y ≡ blank_pixel) }
         ensures rect { self.new.rect ≡ self.old.rect }
         ensures blank { EachTakes (λ x y old. blank_pixel) self.old self.new }
     {

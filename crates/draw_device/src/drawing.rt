@@ -1,6 +1,7 @@
 //! What spans, triangles and blocks make of a grid of pixels.
-ghost use Rattle.std.specs.Prelude.{◌≡◌, ◌+◌, ◌*◌, ◌<◌, ◌≤◌, length, pos, ◌≤ℤ◌, true, Some, IfOk, IfSome, MatchOption};
+ghost use Rattle.std.specs.Prelude.{◌≡◌, ◌+◌, ◌*◌, ◌<◌, ◌≤◌, length, ℤ, pos, ◌≤ℤ◌, ◌<ℤ◌, true, Some, IfOk, IfSome, MatchOption};
 ghost use Rattle.rc_base.specs.Cluster.Tiles.{is_in_rect};
+ghost use Rattle.rc_base.specs.Drawing.Cover.{is_inside};
 ghost use Rattle.rc_base.specs.Drawing.PixelStep.{clear_step};
 ghost use Rattle.rc_base.specs.Drawing.Kept.{kept_whole};
 ghost use Rattle.rc_base.specs.Drawing.Triangles.{cut_modes};
@@ -9,17 +10,16 @@ ghost use Rattle.geometry.specs.Items.{AreBelow};
 ghost use Rattle.geometry.specs.Listed.{listed, listed_block};
 ghost use Rattle.geometry.specs.Pieces.{found, found_in};
 ghost use Rattle.raster.specs.Clips.{IsPart};
-ghost use Rattle.raster.specs.Colors.{AreFlat};
+ghost use Rattle.raster.specs.Colors.{AreFlat, IsColorPlane};
 ghost use Rattle.raster.specs.Spans.{IsOnlyColumn};
-ghost use Rattle.raster.specs.Weighed.{HoldsSome};
 ghost use Rattle.textures.specs.Images.{HasTexelIfAny};
 ghost use Rattle.draw_device.specs.Prepared.{IsPreparedFor};
-ghost use Rattle.draw_device.specs.Shapes.{IsCovered, IsSpanIn, AreRowsOf, IsCacheOf, drawn_step, grid_rect, span_step};
+ghost use Rattle.draw_device.specs.Shapes.{IsSpanIn, AreRowsOf, IsCacheOf, drawn_step, grid_rect, span_step};
 ghost use Rattle.draw_device.specs.Conditions.{IsClearable};
 ghost use Rattle.draw_device.specs.Columns.{IsOnlyRun};
 ghost use Rattle.draw_device.specs.Devices.{pixel_index};
 ghost use Rattle.draw_device.specs.Grids.{IsDrawnBy, IsDrawnInPlace, grid_pixel, grid_pixels};
-ghost use Rattle.draw_device.specs.Setups.{AreStoredIn, IsDrawnIn, IsGridPlane, IsPaintIn, IsPaintedIn, IsStoredRun, block_of, cached_of, corners_of, covered_by, fragment_by, pieces_of, triangle_of, triangles_of};
+ghost use Rattle.draw_device.specs.Setups.{AreStoredIn, IsDrawnIn, IsPaintIn, IsPaintedIn, IsStoredRun, block_of, corners_of, covered_by, fragment_by, pieces_of, triangle_of, triangles_of};
 
 use crate::block_setup::BlockSetup;
 use crate::clear_setup::ClearSetup;
@@ -74,7 +74,8 @@ impl Grid {
     fn draw_span(&mut self, triangle: &Setup<'_>, span: Span)
         requires triangle { IsPaintedIn triangle.now self.old.extent }
         requires inside { IsSpanIn self.old.extent span }
-        requires covered { IsCovered triangle.now.tri.now.v span }
+        requires covered { (x : ℤ) → span.x0 ≤ℤ x → x <ℤ span.x1
+            → is_inside triangle.now.tri.now.v x span.y ≡ true }
         ensures { IsDrawnInPlace (span_step (fragment_by triangle.now) span) self.old self.new }
     {
         let _height = self.extent.height;
@@ -167,7 +168,8 @@ impl Grid {
         plane: &ColorPlane,
     )
         requires run { IsStoredRun triangle.now self.old.extent part run }
-        requires plane { IsGridPlane triangle.now.tri.now.v self.old.extent plane.now }
+        requires plane { IsColorPlane triangle.now.tri.now.v
+            (pos self.old.extent.left) (pos self.old.extent.bottom) plane.now }
         ensures { IsDrawnInPlace (covered_by triangle.now) self.old self.new }
     {
         let _part = part;
@@ -262,13 +264,15 @@ impl Grid {
         self.draw_settled(setup, tri, paint);
     }
 
-    // Draws a triangle that covers pixels of a part alone.
+    // Draws a triangle in the part of the grid's rectangle that lets it through.
     #[inline(always)]
-    fn draw_part(&mut self, setup: &BlockSetup<'_>, tri: &WindowTriangle, part: Rect)
+    fn draw_triangle(&mut self, setup: &BlockSetup<'_>, tri: &WindowTriangle)
         requires grid { setup.now.extent ≡ self.old.extent }
-        requires part { HoldsSome tri.now.v setup.now.part part }
         ensures { IsDrawnInPlace (triangle_of setup.now tri.now) self.old self.new }
     {
+        let Some(part) = covered_part(tri, setup.part) else {
+            return;
+        };
         let stores = stores_colors(setup.state, setup.texture, setup.plan, tri);
         if has_few(part, stores) {
             self.draw_few(setup, tri, part);
@@ -284,18 +288,6 @@ impl Grid {
                 self.draw_settled(setup, tri, paint);
             }
             None => self.draw_stored(setup, tri),
-        }
-    }
-
-    // Draws a triangle in the part of the grid's rectangle that lets it through.
-    #[inline(always)]
-    fn draw_triangle(&mut self, setup: &BlockSetup<'_>, tri: &WindowTriangle)
-        requires grid { setup.now.extent ≡ self.old.extent }
-        ensures { IsDrawnInPlace (triangle_of setup.now tri.now) self.old self.new }
-    {
-        match covered_part(tri, setup.part) {
-            Some(part) => self.draw_part(setup, tri, part),
-            None => {}
         }
     }
 
@@ -334,7 +326,8 @@ impl Grid {
         requires state { cache.old.state.now ≡ setup.now.state.now }
         requires corners { AreBelow (length (listed cache.old.vertices)) corners }
         ensures cache { IsCacheOf cache.old.state.now (listed cache.old.vertices) cache.new }
-        ensures drawn { IsDrawnInPlace (cached_of setup.now cache.old corners) self.old self.new }
+        ensures drawn { IsDrawnInPlace (corners_of setup.now (listed cache.old.vertices) corners)
+            self.old self.new }
     {
         let tri = cache.triangle_near(corners, &setup.near, &setup.bounds);
         self.draw_near(setup, tri, &cache.vertices, corners);

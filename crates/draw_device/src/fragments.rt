@@ -1,7 +1,7 @@
 //! The colours of a row's fragments after the texture stage.
 ghost use Rattle.std.specs.Prelude.{◌≡◌, ◌≤◌, length};
 ghost use Rattle.draw_device.specs.Loops.{IsRunCovered, IsRunColored};
-ghost use Rattle.draw_device.specs.Setups.{AreColorsOf, AreTexelsOf, IsSourceOf, run_texel};
+ghost use Rattle.draw_device.specs.Setups.{AreColorsOf, AreTexelsAlong, IsSourceOf, run_texel};
 
 use crate::colors::{fill_colors, repeat_colors, step_colors, texel_colors, tint_colors};
 use crate::run::Run;
@@ -21,9 +21,7 @@ fn texel_row(
     ts: &WordPlane,
     run: Run,
 )
-    requires room { run.to ≤ length colors.old }
-    requires covered { IsRunCovered setup.now.tri.now.v run }
-    requires texels { AreTexelsOf setup.now run sampler ss.now ts.now }
+    requires { AreTexelsAlong setup.now run colors.old sampler ss.now ts.now }
     ensures { IsRunColored run (λ k old. run_texel setup.now run k) colors.old colors.new }
 {
     if sampler.wrap_s == 0 && sampler.wrap_t == 0 {

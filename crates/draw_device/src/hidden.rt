@@ -6,7 +6,7 @@ ghost use Rattle.draw_device.specs.Plans.{HasDepthPlane};
 
 use crate::run::Run;
 use crate::setup::Setup;
-use crate::stepped::{depth_by, value_ramp};
+use crate::stepped::{value_by, value_ramp};
 use crate::visible::Visible;
 use fragment_ops::DepthTest;
 use raster::WordPlane;
@@ -37,7 +37,7 @@ pub(crate) fn first_passing(
     let test = setup.plan.depth;
     let mut ramp = value_ramp(plane, run);
     for x in run.from..run.to {
-        let depth = depth_by(&ramp, setup.tri, run, x);
+        let depth = value_by(&ramp, setup.tri, run, x);
         if passes_step(test, depth, depths[x as usize]) {
             return Visible {
                 from: x,

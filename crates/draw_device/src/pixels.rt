@@ -8,7 +8,7 @@ ghost use Rattle.draw_device.specs.Setups.{AreDepthTestedBy, AreFlagsOf, AreWrit
 use crate::grid::Spare;
 use crate::run::Run;
 use crate::setup::Setup;
-use crate::stepped::{depth_by, value_ramp};
+use crate::stepped::{value_by, value_ramp};
 use fragment_ops::DepthTest;
 use raster::WordPlane;
 use rc_base::command::Rgba;
@@ -46,7 +46,7 @@ pub(crate) fn test_run(
     let test = setup.plan.depth;
     let mut ramp = value_ramp(plane, run);
     for x in run.from..run.to {
-        let depth = depth_by(&ramp, setup.tri, run, x);
+        let depth = value_by(&ramp, setup.tri, run, x);
         let place = x as usize;
         test_step(
             test,
@@ -108,7 +108,7 @@ pub(crate) fn any_run(
     let test = setup.plan.depth;
     let mut ramp = value_ramp(plane, run);
     for x in run.from..run.to {
-        let depth = depth_by(&ramp, setup.tri, run, x);
+        let depth = value_by(&ramp, setup.tri, run, x);
         let place = x as usize;
         any_step(
             test,

@@ -1,11 +1,11 @@
 //! What is settled once a block, and once a triangle.
-ghost use Rattle.std.specs.Prelude.{◌≡◌, pos, true, false, None, IfSome};
+ghost use Rattle.std.specs.Prelude.{◌≡◌, ℤ, pos, true, false, None, IfSome};
 ghost use Rattle.rc_base.specs.Drawing.Texel.{wrap_in_s, wrap_in_t};
 ghost use Rattle.raster.specs.Colors.{AreFlat};
 ghost use Rattle.raster.specs.Planes.{IsTriangleSetup};
 ghost use Rattle.textures.specs.Images.{HasTexel, HasTexelIfAny};
 ghost use Rattle.textures.specs.Samplers.{IsSampler};
-ghost use Rattle.draw_device.specs.Plans.{IsPlan, IsWrite, IsSourceFrom, IsTestsFrom, AreStored, AreUntested, IsLaidAlone, IsShading, Replaces, Modulates};
+ghost use Rattle.draw_device.specs.Plans.{IsPlan, IsWrite, IsSourceFrom, IsTests, AreStored, AreUntested, IsLaidAlone, IsShading, Replaces, Modulates};
 
 use crate::plan::Plan;
 use crate::shading::Shading;
@@ -209,7 +209,8 @@ pub(crate) fn tests_of(
     shared: &TriangleSetup,
 ) -> Tests
     requires { IsPlan state.now plan.now }
-    ensures { IsTestsFrom state.now tri.now.v shared.now result }
+    ensures { (x y : ℤ) → IsTriangleSetup tri.now.v x y shared.now
+        → IsTests state.now tri.now.v x y result }
 {
     let _state = state;
     if !has_depths(tri) {

@@ -1,8 +1,7 @@
 //! A row of fragments that goes into the pixels, by its colours, which `spare` has, and by the tests that it takes.
 ghost use Rattle.std.specs.Prelude.{◌≡◌, ◌≤◌, length, pos};
-ghost use Rattle.draw_device.specs.Loops.{IsCoveredRow};
 ghost use Rattle.draw_device.specs.Plans.{AreUntested, AreAlphaTested, IsDepthPlane};
-ghost use Rattle.draw_device.specs.Setups.{AreDepthTestedBy, AreFlagsOf, AreLaidIn, AreWrittenOf, IsRowPut, IsTestsOf};
+ghost use Rattle.draw_device.specs.Setups.{AreDepthTestedBy, AreFlagsOf, AreLaidIn, AreWrittenOf, IsRowLaid, IsRowPut, IsTestsOf};
 
 use crate::alpha::{choose_colors, flag_passing};
 use crate::colors::copy_colors;
@@ -43,8 +42,7 @@ fn write_row(spare: &mut Spare, stored: &[Rgba], setup: &Setup<'_>, run: Run)
 
 // A row of fragments that take no test.
 fn untested_row(colors: &mut [Rgba], depths: &[u32], spare: &mut Spare, setup: &Setup<'_>, run: Run)
-    requires row { IsCoveredRow setup.now.tri.now.v run colors.old depths.now }
-    requires laid { AreLaidIn setup.now run spare.old.colors.items }
+    requires row { IsRowLaid setup.now run colors.old depths.now spare.old.colors.items }
     requires tests { AreUntested setup.now.state.now setup.now.tri.now.v }
     ensures { IsRowPut setup.now run spare.old colors.old depths.now
         spare.new colors.new depths.now }
@@ -56,8 +54,7 @@ fn untested_row(colors: &mut [Rgba], depths: &[u32], spare: &mut Spare, setup: &
 
 // A row of fragments that take the alpha test alone.
 fn chosen_row(colors: &mut [Rgba], depths: &[u32], spare: &mut Spare, setup: &Setup<'_>, run: Run)
-    requires row { IsCoveredRow setup.now.tri.now.v run colors.old depths.now }
-    requires laid { AreLaidIn setup.now run spare.old.colors.items }
+    requires row { IsRowLaid setup.now run colors.old depths.now spare.old.colors.items }
     requires tests { AreAlphaTested setup.now.state.now setup.now.tri.now.v }
     ensures { IsRowPut setup.now run spare.old colors.old depths.now
         spare.new colors.new depths.now }
@@ -83,8 +80,7 @@ pub(crate) fn tested_row(
     plane: &WordPlane,
     run: Run,
 )
-    requires row { IsCoveredRow setup.now.tri.now.v run colors.old depths.old }
-    requires laid { AreLaidIn setup.now run spare.old.colors.items }
+    requires row { IsRowLaid setup.now run colors.old depths.old spare.old.colors.items }
     requires tests { AreDepthTestedBy setup.now run plane.now }
     ensures { IsRowPut setup.now run spare.old colors.old depths.old
         spare.new colors.new depths.new }
@@ -102,8 +98,7 @@ fn any_row(
     plane: &WordPlane,
     run: Run,
 )
-    requires row { IsCoveredRow setup.now.tri.now.v run colors.old depths.old }
-    requires laid { AreLaidIn setup.now run spare.old.colors.items }
+    requires row { IsRowLaid setup.now run colors.old depths.old spare.old.colors.items }
     requires plane { IsDepthPlane setup.now.tri.now.v (pos run.left) (pos run.bottom) plane.now }
     ensures { IsRowPut setup.now run spare.old colors.old depths.old
         spare.new colors.new depths.new }
@@ -122,8 +117,7 @@ pub(crate) fn put_row(
     tests: &Tests,
     run: Run,
 )
-    requires row { IsCoveredRow setup.now.tri.now.v run colors.old depths.old }
-    requires laid { AreLaidIn setup.now run spare.old.colors.items }
+    requires row { IsRowLaid setup.now run colors.old depths.old spare.old.colors.items }
     requires tests { IsTestsOf setup.now run tests.now }
     ensures { IsRowPut setup.now run spare.old colors.old depths.old
         spare.new colors.new depths.new }

@@ -1,8 +1,9 @@
 //! A row of a triangle's pixels, by the way that was settled for the triangle. Slices and numbers come apart, so that a loop has them in registers.
-ghost use Rattle.std.specs.Prelude.{◌≡◌, ◌≤◌, length, pos};
+ghost use Rattle.std.specs.Prelude.{◌≡◌, ◌+◌, ◌≤◌, length, pos};
 ghost use Rattle.raster.specs.Colors.{IsColorPlane};
 ghost use Rattle.draw_device.specs.Loops.{IsCoveredRow, IsGridRow, IsRunCovered, IsVisibleFrom};
-ghost use Rattle.draw_device.specs.Setups.{AreDepthTestedBy, AreStagesOf, IsRowDrawnUp, IsPaintOf, IsRowDrawn, IsSourceOf, IsStoredBy, IsTestsOf};
+ghost use Rattle.draw_device.specs.Plans.{AreStages};
+ghost use Rattle.draw_device.specs.Setups.{AreDepthTestedBy, IsPaintOf, IsRowDrawn, IsRowPut, IsSourceOf, IsStoredBy, IsTestsOf, IsWindowRowDrawn};
 
 use crate::colors::{fill_colors, step_colors};
 use crate::columns::is_few;
@@ -60,8 +61,8 @@ fn depth_row(
     requires room { run.to ≤ length spare.old.colors.items }
     requires source { IsSourceOf setup.now run source.now }
     requires tested { AreDepthTestedBy setup.now run plane.now }
-    ensures spare { length spare.new.colors.items ≡ length spare.old.colors.items }
-    ensures drawn { IsRowDrawn setup.now run colors.old depths.old colors.new depths.new }
+    ensures { IsRowPut setup.now run spare.old colors.old depths.old
+        spare.new colors.new depths.new }
 {
     let seen = first_passing(depths, setup, plane, run);
     if seen.from == run.to {
@@ -98,9 +99,10 @@ fn stage_row(
 )
     requires row { IsCoveredRow setup.now.tri.now.v run colors.old depths.old }
     requires room { run.to ≤ length spare.old.colors.items }
-    requires stages { AreStagesOf setup.now run stages }
-    ensures spare { length spare.new.colors.items ≡ length spare.old.colors.items }
-    ensures drawn { IsRowDrawn setup.now run colors.old depths.old colors.new depths.new }
+    requires stages { AreStages setup.now.state.now setup.now.texture.now setup.now.tri.now.v
+        (pos run.left) (pos run.bottom) stages }
+    ensures { IsRowPut setup.now run spare.old colors.old depths.old
+        spare.new colors.new depths.new }
 {
     if let Tests::Depth(plane) = stages.tests {
         depth_row(colors, depths, spare, setup, stages.source, plane, run);
@@ -139,7 +141,8 @@ pub(crate) fn draw_row(
     requires room { to ≤ length spare.old.colors.items }
     requires paint { IsPaintOf setup.now }
     ensures spare { length spare.new.colors.items ≡ length spare.old.colors.items }
-    ensures drawn { IsRowDrawnUp setup.now up from to colors.old depths.old colors.new depths.new }
+    ensures drawn { IsWindowRowDrawn setup.now (setup.now.extent.bottom + up) from to
+        colors.old depths.old colors.new depths.new }
 {
     let row = setup.extent.bottom + up;
     match setup.paint {

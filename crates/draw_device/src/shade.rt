@@ -1,5 +1,5 @@
 //! The pixels of a row, one by one: each that the triangle covers takes its fragment, whose depth is tested before its colour is made.
-ghost use Rattle.std.specs.Prelude.{◌≡◌, ◌+◌, ◌≤◌, length, pos, true, None, IfSome};
+ghost use Rattle.std.specs.Prelude.{◌≡◌, ◌+◌, pos, true, None, IfSome};
 ghost use Rattle.rc_base.specs.Drawing.Cover.{is_inside};
 ghost use Rattle.rc_base.specs.Drawing.Fragment.{fragment_of};
 ghost use Rattle.rc_base.specs.Drawing.PixelStep.{fragment_color};
@@ -8,8 +8,9 @@ ghost use Rattle.raster.specs.EdgeRamps.{IsEdgeRamp};
 ghost use Rattle.raster.specs.Weighed.{IsWeighed};
 ghost use Rattle.fragment_ops.specs.DepthTests.{pixel};
 ghost use Rattle.textures.specs.Images.{HasTexelIfAny};
-ghost use Rattle.draw_device.specs.Loops.{AreCovered, IsPut};
-ghost use Rattle.draw_device.specs.Setups.{IsShadingOf, IsWindowRowDrawn, IsWindowRowTried, fragment_by, tried_by};
+ghost use Rattle.draw_device.specs.Loops.{AreCovered, IsPut, IsRowWith};
+ghost use Rattle.draw_device.specs.Setups.{IsShadingOf, IsWindowRowDrawn, fragment_by, tried_by};
+ghost use Rattle.draw_device.specs.Shapes.{IsRowChanged};
 
 use crate::grid::Extent;
 use crate::hidden::passes_step;
@@ -231,9 +232,7 @@ pub(crate) fn draw_run(
     to: u16,
 )
     requires shading { IsShadingOf setup.now shading }
-    requires order { from ≤ to }
-    requires colors { to ≤ length colors.old }
-    requires depths { length depths.old ≡ length colors.old }
+    requires row { IsRowWith from to colors.old depths.old }
     requires covered { AreCovered setup.now.tri.now.v setup.now.extent.left row from to }
     ensures { IsWindowRowDrawn setup.now row from to colors.old depths.old colors.new depths.new }
 {
@@ -264,10 +263,9 @@ pub(crate) fn try_run(
 )
     requires shading { IsShadingOf setup.now shading }
     requires corners { corners.now.v ≡ setup.now.tri.now.v }
-    requires order { from ≤ to }
-    requires colors { to ≤ length colors.old }
-    requires depths { length depths.old ≡ length colors.old }
-    ensures { IsWindowRowTried setup.now row from to colors.old depths.old colors.new depths.new }
+    requires row { IsRowWith from to colors.old depths.old }
+    ensures { IsRowChanged (tried_by setup.now) setup.now.extent.left row from to
+        colors.old depths.old colors.new depths.new }
 {
     let mut edges = edges_at(corners, setup.extent, from, row);
     for x in from..to {

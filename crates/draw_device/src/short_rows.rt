@@ -1,10 +1,9 @@
 //! Short rows of a triangle whose fragments take the depth test alone and whose colours no texture changes: pixel by pixel, since a pass over the row
 //! for each stage costs more than its pixels do.
-ghost use Rattle.std.specs.Prelude.{◌≡◌, ◌+◌, ◌<◌, ◌≤◌, ◌^◌, pos, true, false, IfSome};
-ghost use Rattle.rc_base.specs.Drawing.Cover.{is_inside};
+ghost use Rattle.std.specs.Prelude.{◌≡◌, ◌<◌, ◌≤◌, false, IfSome};
 ghost use Rattle.rc_base.specs.Drawing.PixelStep.{fragment_color, written_color};
 ghost use Rattle.raster.specs.Colors.{HasDepths};
-ghost use Rattle.draw_device.specs.Loops.{run_fragment, IsCoveredRow, IsDepthAt, IsRunCovered};
+ghost use Rattle.draw_device.specs.Loops.{run_fragment, IsCoveredRow, IsDepthAt, IsReached, IsRunCovered};
 ghost use Rattle.draw_device.specs.Setups.{IsRowDrawn, IsSourceOf};
 ghost use Rattle.draw_device.specs.Shades.{AreShades, IsLaid, AreNextShades};
 
@@ -13,7 +12,7 @@ use crate::run::Run;
 use crate::setup::Setup;
 use crate::shades::Shades;
 use crate::source::Source;
-use crate::stepped::{color_by, color_ramp, depth_by};
+use crate::stepped::{color_by, color_ramp, value_by};
 use crate::write::Write;
 use fragment_ops::blend_over;
 use raster::WordRamp;
@@ -58,8 +57,7 @@ fn shade_by(shades: &Shades, setup: &Setup<'_>, run: Run, x: u16) -> Rgba
     requires shades { AreShades setup.now.state.now setup.now.texture.now setup.now.tri.now.v run x shades.now }
     requires low { run.from ≤ x }
     requires high { x < run.to }
-    requires inside { is_inside setup.now.tri.now.v (pos (run.left + x)) (pos run.row) ≡ true }
-    requires few { 1 + x + run.up < 2 ^ 12 }
+    requires place { IsReached setup.now.tri.now.v run x }
     ensures { result ≡ fragment_color setup.now.state.now setup.now.texture.now (run_fragment setup.now.tri.now.v run x) }
 {
     match shades {
@@ -115,7 +113,7 @@ pub(crate) fn draw_short(
     let mut shades = first;
     for x in run.from..run.to {
         let place = x as usize;
-        let depth = depth_by(&ramp, setup.tri, run, x);
+        let depth = value_by(&ramp, setup.tri, run, x);
         let shade = shade_by(&shades, setup, run, x);
         let color = laid(setup, over, shade, colors[place]);
         test_step(test, color, depth, &mut colors[place], &mut depths[place]);

@@ -1,7 +1,9 @@
 //! What a ramp has at a column of a run, as what the triangle's fragment has there.
-ghost use Rattle.std.specs.Prelude.{◌≡◌, ◌+◌, ◌^◌, ◌<◌, pos, true};
-ghost use Rattle.rc_base.specs.Drawing.Cover.{is_inside};
-ghost use Rattle.draw_device.specs.Loops.{run_fragment, IsColorAt, IsColorStart, IsDepthAt, IsSAt, IsTAt, IsValueStart};
+ghost use Rattle.std.specs.Prelude.{◌≡◌, List, ℤ, pos};
+ghost use Rattle.rc_base.specs.declared.window.WindowVertex.{WindowVertex};
+ghost use Rattle.raster.specs.Colors.{IsColorPlane};
+ghost use Rattle.raster.specs.Planes.{IsWordPlane};
+ghost use Rattle.draw_device.specs.Loops.{run_fragment, IsColorAt, IsDepthAt, IsReached, IsValueAt};
 
 use crate::run::Run;
 use raster::{ColorPlane, ColorRamp, WordPlane, WordRamp};
@@ -10,21 +12,23 @@ use rc_base::triangle::WindowTriangle;
 
 /// The colours of a plane from the run's first column on.
 pub(crate) fn color_ramp(plane: &ColorPlane, run: Run) -> ColorRamp
-    ensures { IsColorStart plane.now run result }
+    ensures { (v : List WindowVertex) → IsColorPlane v (pos run.left) (pos run.bottom) plane.now
+        → IsColorAt v run run.from result }
 {
     plane.ramp(u64::from(run.from), u64::from(run.up))
 }
 
 /// An attribute's values from the run's first column on.
 pub(crate) fn value_ramp(plane: &WordPlane, run: Run) -> WordRamp
-    ensures { IsValueStart plane.now run result }
+    ensures { (v : List WindowVertex) (f : WindowVertex → ℤ)
+        → IsWordPlane v (pos run.left) (pos run.bottom) f plane.now
+        → IsValueAt v run f run.from result }
 {
     plane.ramp(u64::from(run.from), u64::from(run.up))
 }
 
 pub(crate) fn color_by(ramp: &ColorRamp, tri: &WindowTriangle, run: Run, x: u16) -> Rgba
-    requires inside { is_inside tri.now.v (pos (run.left + x)) (pos run.row) ≡ true }
-    requires few { 1 + x + run.up < 2 ^ 12 }
+    requires place { IsReached tri.now.v run x }
     requires ramp { IsColorAt tri.now.v run x ramp.now }
     ensures { result ≡ (run_fragment tri.now.v run x).color }
 {
@@ -33,33 +37,15 @@ pub(crate) fn color_by(ramp: &ColorRamp, tri: &WindowTriangle, run: Run, x: u16)
     ramp.color()
 }
 
-pub(crate) fn depth_by(ramp: &WordRamp, tri: &WindowTriangle, run: Run, x: u16) -> i32
-    requires inside { is_inside tri.now.v (pos (run.left + x)) (pos run.row) ≡ true }
-    requires few { 1 + x + run.up < 2 ^ 12 }
-    requires ramp { IsDepthAt tri.now.v run x ramp.now }
-    ensures { result ≡ (run_fragment tri.now.v run x).depth }
-{
-    let _tri = tri;
-    let _place = (run.left, run.row, run.up, x);
-    ramp.mean()
-}
-
-pub(crate) fn s_by(ramp: &WordRamp, tri: &WindowTriangle, run: Run, x: u16) -> i32
-    requires inside { is_inside tri.now.v (pos (run.left + x)) (pos run.row) ≡ true }
-    requires few { 1 + x + run.up < 2 ^ 12 }
-    requires ramp { IsSAt tri.now.v run x ramp.now }
-    ensures { result ≡ (run_fragment tri.now.v run x).s }
-{
-    let _tri = tri;
-    let _place = (run.left, run.row, run.up, x);
-    ramp.mean()
-}
-
-pub(crate) fn t_by(ramp: &WordRamp, tri: &WindowTriangle, run: Run, x: u16) -> i32
-    requires inside { is_inside tri.now.v (pos (run.left + x)) (pos run.row) ≡ true }
-    requires few { 1 + x + run.up < 2 ^ 12 }
-    requires ramp { IsTAt tri.now.v run x ramp.now }
-    ensures { result ≡ (run_fragment tri.now.v run x).t }
+/// The depth there by a ramp of depths, or a texture coordinate by one of these.
+pub(crate) fn value_by(ramp: &WordRamp, tri: &WindowTriangle, run: Run, x: u16) -> i32
+    requires { IsReached tri.now.v run x }
+    ensures depth { IsDepthAt tri.now.v run x ramp.now
+        → result ≡ (run_fragment tri.now.v run x).depth }
+    ensures s { IsValueAt tri.now.v run (λ (c : WindowVertex). c.s) x ramp.now
+        → result ≡ (run_fragment tri.now.v run x).s }
+    ensures t { IsValueAt tri.now.v run (λ (c : WindowVertex). c.t) x ramp.now
+        → result ≡ (run_fragment tri.now.v run x).t }
 {
     let _tri = tri;
     let _place = (run.left, run.row, run.up, x);

@@ -9,7 +9,7 @@ loop-x-preserved c =
     let x = c.loop-x.x in
     let d = c.loop-x.invariant.done in
     let s = d.size in
-    let order = c.requires.order in
+    let order = c.requires.columns.order in
     let was = d.after x (omega arith) in
     record {
       done = color_more (λ (k : ℕ) (old : Rgba). if flag_at c.args.flags.now k then color_at c.args.others.now k else old) c.args.from x _ _ _ d (omega arith) (omega arith)
@@ -18,6 +18,6 @@ loop-x-preserved c =
 
 pub returns : goal.returns
 returns c =
-    let order = c.requires.order in
+    let order = c.requires.columns.order in
     let e = c.loop-x.auto.x-end order in
     color_end (λ (k : ℕ) (old : Rgba). if flag_at c.args.flags.now k then color_at c.args.others.now k else old) c.args.from _ c.args.to _ _ (omega arith) c.loop-x.invariant.done

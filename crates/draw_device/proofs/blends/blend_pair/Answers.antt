@@ -11,7 +11,7 @@ loop-x-preserved g c =
     let x = c.loop-x.x in
     let d = c.loop-x.invariant.done in
     let s = d.size in
-    let order = c.requires.order in
+    let order = c.requires.columns.order in
     let was = d.after x (omega arith) in
     let kind = by_codes c.args.blending.now.state.now g.row.FIRST g.row.SECOND c.args.blending.now.first c.args.blending.now.second c.factor_named-source.result c.factor_named-kept.result c.args.blending.now.kind c.requires.first c.requires.second c.factor_named-source.ensures c.factor_named-kept.ensures in
     record {
@@ -21,6 +21,6 @@ loop-x-preserved g c =
 
 pub returns : goal.returns
 returns g c =
-    let order = c.requires.order in
+    let order = c.requires.columns.order in
     let e = c.loop-x.auto.x-end order in
     color_end (λ (k : ℕ) (old : Rgba). mixed_color c.args.blending.now.state.now old (color_at c.args.stored.now k)) c.args.from _ c.args.to _ _ (omega arith) c.loop-x.invariant.done

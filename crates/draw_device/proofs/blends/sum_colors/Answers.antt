@@ -10,7 +10,7 @@ loop-x-preserved c =
     let x = c.loop-x.x in
     let d = c.loop-x.invariant.done in
     let s = d.size in
-    let order = c.requires.order in
+    let order = c.requires.columns.order in
     let was = d.after x (omega arith) in
     record {
       done = color_more (λ (k : ℕ) (old : Rgba). written_color c.args.state.now old (color_at c.args.stored.now k)) c.args.from x _ _ _ d (omega arith) (omega arith)
@@ -19,6 +19,6 @@ loop-x-preserved c =
 
 pub returns : goal.returns
 returns c =
-    let order = c.requires.order in
+    let order = c.requires.columns.order in
     let e = c.loop-x.auto.x-end order in
     color_end (λ (k : ℕ) (old : Rgba). written_color c.args.state.now old (color_at c.args.stored.now k)) c.args.from _ c.args.to _ _ (omega arith) c.loop-x.invariant.done

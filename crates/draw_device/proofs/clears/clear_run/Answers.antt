@@ -7,7 +7,7 @@ pub loop-x-preserved : goal.loop-x-preserved
 loop-x-preserved c =
     let a = c.args in
     let i = c.loop-x.invariant in
-    let alike = i.depths ∙ c.requires.depths ∙ sym i.colors in
+    let alike = i.depths ∙ c.requires.alike ∙ sym i.colors in
     record {
       colors = length-set _ _ _ ∙ i.colors;
       depths = length-set _ _ _ ∙ i.depths;

@@ -9,6 +9,6 @@ returns c left row =
     record {
       colors = c.clear_colors.ensures.size;
       depths = c.clear_depths.ensures.size;
-      drawn = run_filled (cleared_pixel s.state.now s.mask) left row a.from a.to _ _ _ _ _ _ c.requires.depths c.clear_colors.ensures c.clear_depths.ensures
+      drawn = run_filled (cleared_pixel s.state.now s.mask) left row a.from a.to _ _ _ _ _ _ c.requires.row.alike c.clear_colors.ensures c.clear_depths.ensures
           (λ x y o. c.pixel-cleared.ensures.cleared c.requires.whole s.state.now s.mask o s.settled);
     }

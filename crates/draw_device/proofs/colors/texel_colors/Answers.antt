@@ -1,7 +1,8 @@
-use Rattle.std.proofs.Common.{ℕ, ◌+◌, pos, arith}
+use Rattle.std.proofs.Common.{ℕ, ◌+◌, ◌∙◌, pos, arith, to_z-of_z, FitsSigned, w32}
 use Rattle.rc_base.specs.declared.command.Rgba.{Rgba}
 use Rattle.rc_base.specs.declared.window.WindowVertex.{WindowVertex}
 use Rattle.draw_device.specs.Loops.{run_fragment, texel_for}
+use Rattle.draw_device.proofs.Runs.{reached}
 use Rattle.draw_device.proofs.Steps.{color_more, color_end, color_none, value_moved}
 use Rattle.draw_device.proofs.colors.texel_colors.Goals as goal
 
@@ -23,17 +24,18 @@ returns c =
     let e = c.loop-x.auto.x-end order in
     color_end (λ (k : ℕ) (old : Rgba). texel_for c.args.setup.now.state.now c.args.setup.now.texture.now (run_fragment c.args.setup.now.tri.now.v c.args.run k)) c.args.run.from _ c.args.run.to _ _ (omega arith) c.loop-x.invariant.done
 
-pub s_by-s-requires-clause-inside : goal.s_by-s-requires-clause-inside
-s_by-s-requires-clause-inside c = c.requires.covered c.loop-x.x (omega arith) (omega arith)
+pub value_by-s-requires : goal.value_by-s-requires
+value_by-s-requires c = reached c.args.setup.now.tri.now.v c.args.run c.loop-x.x c.requires.covered (omega arith) (omega arith)
 
-pub s_by-s-requires-clause-few : goal.s_by-s-requires-clause-few
-s_by-s-requires-clause-few c = let few = c.args.run.few in omega arith
+pub value_by-t-requires : goal.value_by-t-requires
+value_by-t-requires c = reached c.args.setup.now.tri.now.v c.args.run c.loop-x.x c.requires.covered (omega arith) (omega arith)
 
-pub t_by-t-requires-clause-inside : goal.t_by-t-requires-clause-inside
-t_by-t-requires-clause-inside c = c.requires.covered c.loop-x.x (omega arith) (omega arith)
-
-pub t_by-t-requires-clause-few : goal.t_by-t-requires-clause-few
-t_by-t-requires-clause-few c = let few = c.args.run.few in omega arith
+pub texel-requires : goal.texel-requires
+texel-requires c =
+    let i = c.loop-x.invariant in
+    let fs : FitsSigned w32 c.value_by-s.result = record { sfits = c.value_by-s.type_inv } in
+    let ft : FitsSigned w32 c.value_by-t.result = record { sfits = c.value_by-t.type_inv } in
+    record { image = c.requires.texels.sampler; across = to_z-of_z fs ∙ c.value_by-s.ensures.s i.ss; up = to_z-of_z ft ∙ c.value_by-t.ensures.t i.ts }
 
 pub loop-x-init : goal.loop-x-init
 loop-x-init c =

@@ -2,6 +2,7 @@ use Rattle.std.proofs.Common.{ℕ, ◌+◌, ◌∙◌, pos, arith, sym}
 use Rattle.rc_base.specs.Drawing.PixelStep.{textured}
 use Rattle.rc_base.specs.declared.command.Rgba.{Rgba}
 use Rattle.draw_device.specs.Loops.{run_fragment}
+use Rattle.draw_device.proofs.Runs.{reached}
 use Rattle.draw_device.proofs.Steps.{color_more, color_end, color_moved}
 use Rattle.draw_device.proofs.colors.tint_colors.Goals as goal
 
@@ -23,8 +24,5 @@ returns c =
     let e = c.loop-x.auto.x-end order in
     color_end (λ (k : ℕ) (old : Rgba). textured c.args.state.now (run_fragment c.args.tri.now.v c.args.run k).color old) c.args.run.from _ c.args.run.to _ _ (omega arith) c.loop-x.invariant.done
 
-pub color_by-color-requires-clause-inside : goal.color_by-color-requires-clause-inside
-color_by-color-requires-clause-inside c = c.requires.covered c.loop-x.x (omega arith) (omega arith)
-
-pub color_by-color-requires-clause-few : goal.color_by-color-requires-clause-few
-color_by-color-requires-clause-few c = let few = c.args.run.few in omega arith
+pub color_by-color-requires-clause-place : goal.color_by-color-requires-clause-place
+color_by-color-requires-clause-place c = reached c.args.tri.now.v c.args.run c.loop-x.x c.requires.along.covered (omega arith) (omega arith)

@@ -5,7 +5,7 @@ use Rattle.rc_base.specs.declared.window.WindowVertex.{WindowVertex}
 use Rattle.draw_device.specs.Shapes.{fragment_pixel}
 use Rattle.draw_device.specs.Loops.{run_fragment}
 use Rattle.draw_device.proofs.Lists.{pixel_in}
-use Rattle.draw_device.proofs.Runs.{run_pixel, run_end}
+use Rattle.draw_device.proofs.Runs.{reached, run_pixel, run_end}
 use Rattle.draw_device.proofs.Steps.{value_moved, through_passes}
 use Rattle.draw_device.proofs.pixels.test_run.Goals as goal
 
@@ -20,10 +20,10 @@ loop-x-preserved c =
     let alike = i.depths ∙ c.requires.row.alike ∙ sym i.colors in
     let f = run_fragment v r x in
     let inside = c.requires.row.covered x (omega arith) (omega arith) in
-    let fit : FitsSigned w32 c.depth_by-depth.result = record { sfits = c.depth_by-depth.type_inv } in
+    let fit : FitsSigned w32 c.value_by-depth.result = record { sfits = c.value_by-depth.type_inv } in
     let was = sym (pixel_in c.loop-x.colors c.loop-x.depths x alike) ∙ i.drawn.after x (omega arith) ∙ pixel_in a.colors.now a.depths.now x c.requires.row.alike in
     let color = c.requires.written x (omega arith) (omega arith) ∙ ap (λ (o : Pixel). written_color a.setup.now.state.now (fragment_color a.setup.now.state.now a.setup.now.texture.now f) o.color) (sym was) in
-    let e = c.test_step.ensures a.setup.now.state.now a.setup.now.texture.now f a.setup.now.planned.depth (through_passes a.setup.now.state.now _ c.requires.tested.through) color (to_z-of_z fit ∙ c.depth_by-depth.ensures) in
+    let e = c.test_step.ensures a.setup.now.state.now a.setup.now.texture.now f a.setup.now.planned.depth (through_passes a.setup.now.state.now _ c.requires.tested.through) color (to_z-of_z fit ∙ c.value_by-depth.ensures.depth c.loop-x.invariant.ramp) in
     record {
       colors = length-set _ _ _ ∙ i.colors;
       depths = length-set _ _ _ ∙ i.depths;
@@ -36,7 +36,7 @@ test_step-requires c =
     let r = c.args.run in
     let x = c.loop-x.x in
     let inside = c.requires.row.covered x (omega arith) (omega arith) in
-    rw (to_z-of_z (record { sfits = c.depth_by-depth.type_inv }), c.depth_by-depth.ensures) (c.requires.tested.depths.ranged (pos (r.left + x)) (pos r.row) inside)
+    rw (to_z-of_z (record { sfits = c.value_by-depth.type_inv }), c.value_by-depth.ensures.depth c.loop-x.invariant.ramp) (c.requires.tested.depths.ranged (pos (r.left + x)) (pos r.row) inside)
 
 pub returns : goal.returns
 returns c =
@@ -48,8 +48,5 @@ returns c =
       drawn = run_end (fragment_pixel c.args.setup.now.state.now c.args.setup.now.texture.now c.args.setup.now.tri.now.v) c.args.run.left c.args.run.row c.args.run.from _ _ _ _ (omega arith) c.loop-x.invariant.drawn;
     }
 
-pub depth_by-depth-requires-clause-inside : goal.depth_by-depth-requires-clause-inside
-depth_by-depth-requires-clause-inside c = c.requires.row.covered c.loop-x.x (omega arith) (omega arith)
-
-pub depth_by-depth-requires-clause-few : goal.depth_by-depth-requires-clause-few
-depth_by-depth-requires-clause-few c = let few = c.args.run.few in omega arith
+pub value_by-depth-requires : goal.value_by-depth-requires
+value_by-depth-requires c = reached c.args.setup.now.tri.now.v c.args.run c.loop-x.x c.requires.row.covered (omega arith) (omega arith)

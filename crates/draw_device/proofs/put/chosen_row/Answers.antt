@@ -6,7 +6,7 @@ use Rattle.draw_device.proofs.put.chosen_row.Goals as goal
 pub returns : goal.returns
 returns c =
     let s = c.args.setup.now in
-    let h = c.requires.row in
+    let h = c.requires.row.row in
     let t = c.requires.tests in
     record {
       spare = c.write_row.ensures.size ∙ (λ i. length (c.flag_row.ensures.colors i).items);

@@ -1,17 +1,21 @@
-use Rattle.std.proofs.Common.{arith, refl}
+use Rattle.std.proofs.Common.{arith, refl, rules}
+use Rattle.std.proofs.lemmas.Grind.{common_steps}
 use Rattle.draw_device.proofs.Runs.{row_from, nothing_left, drawn_behind}
 use Rattle.draw_device.proofs.rows.depth_row.Goals as goal
 
-pub returns-then-seen-run-clause-drawn : goal.returns-then-seen-run-clause-drawn
-returns-then-seen-run-clause-drawn c =
+pub returns-then-seen-run : goal.returns-then-seen-run
+returns-then-seen-run c =
     let a = c.args in
     let s = a.setup.now in
     let h = c.first_passing-seen.ensures.visible in
     record {
-      colors = refl;
-      depths = refl;
-      drawn = drawn_behind s.state.now s.texture.now s.tri.now.v a.run _ a.colors.now a.depths.now _ c.requires.row.alike h
-          (nothing_left s.state.now s.texture.now s.tri.now.v a.run _ _ c.if-seen-run.true);
+      spare = refl;
+      drawn = record {
+        colors = refl;
+        depths = refl;
+        drawn = drawn_behind s.state.now s.texture.now s.tri.now.v a.run _ a.colors.now a.depths.now _ c.requires.row.alike h
+            (nothing_left s.state.now s.texture.now s.tri.now.v a.run _ _ c.if-seen-run.true);
+      };
     }
 
 pub color_row-requires-clause-covered : goal.color_row-requires-clause-covered
@@ -20,28 +24,37 @@ color_row-requires-clause-covered c k low high =
     c.requires.row.covered k (omega (arith, e)) high
 
 pub tested_row-requires-clause-row : goal.tested_row-requires-clause-row
-tested_row-requires-clause-row c = row_from c.args.setup.now.tri.now.v c.args.run _ _ _ refl refl refl c.first_passing-seen.ensures.visible.low c.requires.row
+tested_row-requires-clause-row c = record {
+  row = row_from c.args.setup.now.tri.now.v c.args.run _ _ _ refl refl refl c.first_passing-seen.ensures.visible.low c.requires.row;
+  laid = first_of (search rules, grind (arith, common_steps));
+}
 
-pub returns-clause-drawn : goal.returns-clause-drawn
-returns-clause-drawn c =
+pub returns : goal.returns
+returns c =
     let a = c.args in
     let s = a.setup.now in
     let h = c.first_passing-seen.ensures.visible in
     let d = c.tested_row.ensures.drawn in
     record {
-      colors = d.colors;
-      depths = d.depths;
-      drawn = drawn_behind s.state.now s.texture.now s.tri.now.v a.run _ a.colors.now a.depths.now _ c.requires.row.alike h d.drawn;
+      spare = first_of (search rules, grind (arith, common_steps));
+      drawn = record {
+        colors = d.colors;
+        depths = d.depths;
+        drawn = drawn_behind s.state.now s.texture.now s.tri.now.v a.run _ a.colors.now a.depths.now _ c.requires.row.alike h d.drawn;
+      };
     }
 
-pub returns-in-Some-shades_of-clause-drawn : goal.returns-in-Some-shades_of-clause-drawn
-returns-in-Some-shades_of-clause-drawn c =
+pub returns-in-Some-shades_of : goal.returns-in-Some-shades_of
+returns-in-Some-shades_of c =
     let a = c.args in
     let s = a.setup.now in
     let h = c.first_passing-seen.ensures.visible in
     let d = c.draw_short.ensures in
     record {
-      colors = d.colors;
-      depths = d.depths;
-      drawn = drawn_behind s.state.now s.texture.now s.tri.now.v a.run _ a.colors.now a.depths.now _ c.requires.row.alike h d.drawn;
+      spare = refl;
+      drawn = record {
+        colors = d.colors;
+        depths = d.depths;
+        drawn = drawn_behind s.state.now s.texture.now s.tri.now.v a.run _ a.colors.now a.depths.now _ c.requires.row.alike h d.drawn;
+      };
     }

@@ -2,8 +2,8 @@ use Rattle.std.proofs.Common.{refl}
 use Rattle.draw_device.proofs.Runs.{smooth_run}
 use Rattle.draw_device.proofs.rows.store_row.Goals as goal
 
-pub step_colors-requires-clause-ramp : goal.step_colors-requires-clause-ramp
-step_colors-requires-clause-ramp c = c.color_ramp.ensures c.args.setup.now.tri.now.v c.requires.plane
+pub step_colors-requires : goal.step_colors-requires
+step_colors-requires c = record { room = c.requires.row.inside; covered = c.requires.row.covered; ramp = c.color_ramp.ensures c.args.setup.now.tri.now.v c.requires.plane }
 
 pub returns : goal.returns
 returns c =

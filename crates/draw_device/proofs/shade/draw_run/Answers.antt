@@ -10,7 +10,7 @@ pub loop-x-preserved : goal.loop-x-preserved
 loop-x-preserved c =
     let a = c.args in
     let i = c.loop-x.invariant in
-    let alike = i.depths ∙ c.requires.depths ∙ sym i.colors in
+    let alike = i.depths ∙ c.requires.row.alike ∙ sym i.colors in
     record {
       colors = length-set _ _ _ ∙ i.colors;
       depths = length-set _ _ _ ∙ i.depths;
@@ -20,7 +20,7 @@ loop-x-preserved c =
 
 pub returns : goal.returns
 returns c =
-    let order = c.requires.order in
+    let order = c.requires.row.order in
     let e = c.loop-x.auto.x-end order in
     let s = c.args.setup.now in
     record {

@@ -4,7 +4,7 @@ use Rattle.rc_base.specs.declared.state.State.{State}
 use Rattle.rc_base.specs.declared.window.WindowVertex.{WindowVertex}
 use Rattle.draw_device.specs.Shapes.{fragment_pixel}
 use Rattle.draw_device.specs.Loops.{run_fragment}
-use Rattle.draw_device.proofs.Runs.{run_pixel, run_end}
+use Rattle.draw_device.proofs.Runs.{reached, run_pixel, run_end}
 use Rattle.draw_device.specs.Shades.{AreShades, AreNextShades}
 use Rattle.draw_device.specs.declared.run.Run.{Run}
 use Rattle.draw_device.specs.declared.shades.Shades.{Shades}
@@ -22,24 +22,15 @@ returns c =
       drawn = run_end (fragment_pixel c.args.setup.now.state.now c.args.setup.now.texture.now c.args.setup.now.tri.now.v) c.args.run.left c.args.run.row c.args.run.from _ _ _ _ (omega arith) c.loop-x.invariant.drawn;
     }
 
-pub depth_by-depth-requires-clause-inside : goal.depth_by-depth-requires-clause-inside
-depth_by-depth-requires-clause-inside c = c.requires.row.covered c.loop-x.x (omega arith) (omega arith)
-
-pub depth_by-depth-requires-clause-few : goal.depth_by-depth-requires-clause-few
-depth_by-depth-requires-clause-few c = let few = c.args.run.few in omega arith
-
-pub shade_by-shade-requires-clause-inside : goal.shade_by-shade-requires-clause-inside
-shade_by-shade-requires-clause-inside c = c.requires.row.covered c.loop-x.x (omega arith) (omega arith)
-
-pub shade_by-shade-requires-clause-few : goal.shade_by-shade-requires-clause-few
-shade_by-shade-requires-clause-few c = let few = c.args.run.few in omega arith
+pub shade_by-shade-requires-clause-place : goal.shade_by-shade-requires-clause-place
+shade_by-shade-requires-clause-place c = reached c.args.setup.now.tri.now.v c.args.run c.loop-x.x c.requires.row.covered (omega arith) (omega arith)
 
 pub test_step-requires : goal.test_step-requires
 test_step-requires c =
     let r = c.args.run in
     let x = c.loop-x.x in
     let inside = c.requires.row.covered x (omega arith) (omega arith) in
-    rw (to_z-of_z (record { sfits = c.depth_by-depth.type_inv }), c.depth_by-depth.ensures) (c.requires.ranged (pos (r.left + x)) (pos r.row) inside)
+    rw (to_z-of_z (record { sfits = c.value_by-depth.type_inv }), c.value_by-depth.ensures.depth c.loop-x.invariant.ramp) (c.requires.ranged (pos (r.left + x)) (pos r.row) inside)
 
 next_shades : (s : State) (p : Option Picture) (v : List WindowVertex) (r : Run) (k : ℕ) (old new : Shades) → AreShades s p v r k old → AreNextShades old new → AreShades s p v r (k + 1) new
 next_shades s p v r k (shades.One color) new h n = subst (λ (z : Shades). AreShades s p v r (k + 1) z) (sym n) h
@@ -59,9 +50,9 @@ loop-x-preserved c =
     let order = c.args.run.order in
     let alike = i.depths ∙ c.requires.row.alike ∙ sym i.colors in
     let f = run_fragment v r x in
-    let fit : FitsSigned w32 c.depth_by-depth.result = record { sfits = c.depth_by-depth.type_inv } in
+    let fit : FitsSigned w32 c.value_by-depth.result = record { sfits = c.value_by-depth.type_inv } in
     let color = rw c.shade_by-shade.ensures at c.laid-color.ensures in
-    let e = c.test_step.ensures s p f a.setup.now.planned.depth (through_passes s _ c.requires.through) color (to_z-of_z fit ∙ c.depth_by-depth.ensures) in
+    let e = c.test_step.ensures s p f a.setup.now.planned.depth (through_passes s _ c.requires.through) color (to_z-of_z fit ∙ c.value_by-depth.ensures.depth c.loop-x.invariant.ramp) in
     record {
       colors = length-set _ _ _ ∙ i.colors;
       depths = length-set _ _ _ ∙ i.depths;
@@ -69,3 +60,6 @@ loop-x-preserved c =
       ramp = value_moved _ (λ (c : WindowVertex). c.z) r.left x r.row r.up _ (c.advance.ensures v (pos (r.left + x)) (pos r.row) _ (1 + x + r.up) i.ramp);
       shades = next_shades s p v r x c.loop-x.shades c.advance-in-loop-x.new.shades i.shades c.advance-in-loop-x.ensures;
     }
+
+pub value_by-depth-requires : goal.value_by-depth-requires
+value_by-depth-requires c = reached c.args.setup.now.tri.now.v c.args.run c.loop-x.x c.requires.row.covered (omega arith) (omega arith)

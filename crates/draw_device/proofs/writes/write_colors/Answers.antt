@@ -42,3 +42,18 @@ pub returns-in-Both-clause-written : goal.returns-in-Both-clause-written
 returns-in-Both-clause-written c =
     let s = c.args.setup.now in
     mixed_are s.state.now s.texture.now s.tri.now.v c.args.run c.args.stored.now _ _ _ c.requires.colored c.blend_colors-in-Both.ensures c.mask_colors-in-Both.ensures
+
+pub over_colors-requires-clause-columns : goal.over_colors-requires-clause-columns
+over_colors-requires-clause-columns c = record { order = c.args.run.order; room = c.requires.room; beside = c.requires.stored }
+
+pub sum_colors-requires-clause-columns : goal.sum_colors-requires-clause-columns
+sum_colors-requires-clause-columns c = record { order = c.args.run.order; room = c.requires.room; beside = c.requires.stored }
+
+pub blend_colors-requires : goal.blend_colors-requires
+blend_colors-requires c = record { order = c.args.run.order; room = c.requires.room; beside = c.requires.stored }
+
+pub mask_colors-requires : goal.mask_colors-requires
+mask_colors-requires c = record { order = c.args.run.order; room = c.requires.room; beside = c.requires.stored }
+
+pub blend_colors-requires-in-Both : goal.blend_colors-requires-in-Both
+blend_colors-requires-in-Both c = record { order = c.args.run.order; room = c.requires.room; beside = c.requires.stored }

@@ -61,13 +61,13 @@ loop-row-preserved c =
     let within : end ≤ length grid.colors.items =
     let below : r < grid.extent.height = omega (arith, ints) in
     let k = row_part_within grid.extent.width grid.extent.height r grid.extent.width below (omega arith) in omega (arith, k, grid.full, c.row_start-start.ensures) in
-    let size_cs = c.clear_row.ensures.colors in
-    let size_ds = c.clear_row.ensures.depths in
+    let size_cs = (c.clear_row.ensures 0 0).colors in
+    let size_ds = (c.clear_row.ensures 0 0).depths in
     let back_cs = with_items_is grid.colors (put_mid start (end - start) cs new_cs) (same_len_mid start (end - start) cs new_cs size_cs ∙ c.as_mut_slice.ensures.len) in
     let back_ds = with_items_is grid.depths (put_mid start (end - start) ds new_ds) (same_len_mid start (end - start) ds new_ds size_ds ∙ c.as_mut_slice-in-loop-row.ensures.len) in
     let first : start ≡ r * g.width = c.row_start-start.ensures ∙ ap (λ (n : ℕ). r * n) wide in
     let row = row_placed f g.left (g.bottom + r) (r * g.width) start end from to grid.colors.items cs new_cs _ grid.depths.items ds new_ds _ first grid.deep (omega arith) within ordered (omega (arith, inside, wide))
-    c.as_mut_slice.ensures.value c.as_mut_slice-in-loop-row.ensures.value size_cs size_ds back_cs back_ds (c.clear_row.ensures.drawn g.left (g.bottom + r)) in
+    c.as_mut_slice.ensures.value c.as_mut_slice-in-loop-row.ensures.value size_cs size_ds back_cs back_ds (c.clear_row.ensures g.left (g.bottom + r)).drawn in
     record {
       extent = i.extent;
       drawn = stepped_more (clear_step s m) f g _ _ _ (row_at g r) _ span i.drawn (clear_row s m g part p r (omega (arith, ints)) (omega (arith, ints)))

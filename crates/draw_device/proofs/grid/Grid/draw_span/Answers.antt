@@ -29,9 +29,7 @@ draw_row-requires-clause-row c =
     subst (λ (g : Extent). IsGridRow v g up from to cs ds) (sym c.requires.triangle.grid)
     (record {
       top = omega (arith, ints);
-      order = omega (arith, ints);
-      inside = omega (arith, ints, size_cs);
-      alike = size_ds ∙ sym size_cs;
+      row = record { order = omega (arith, ints); inside = omega (arith, ints, size_cs); alike = size_ds ∙ sym size_cs };
       covered = λ k low high.
           let at : c.args.span.x0 ≤ℤ pos (g.left + k) = omega (arith, ints) in
           let below : pos (g.left + k) <ℤ c.args.span.x1 = omega (arith, ints) in

@@ -12,23 +12,15 @@ use Rattle.draw_device.proofs.grid.Grid.try_row.Goals as goal
 pub row_in-row-requires : goal.row_in-row-requires
 row_in-row-requires c = let top = c.args.self.now.top in let low = c.requires.low in omega arith
 
-pub try_run-requires-clause-colors : goal.try_run-requires-clause-colors
-try_run-requires-clause-colors c =
-    let g = c.args.self.now.extent in
-    let start = c.row_start-start.result in
-    let end = start + g.width in
-    let size_cs : length (take (end - start) (drop start c.as_mut_slice.result.now)) ≡ g.width = search rules in
-    let wide = c.requires.wide in
-    omega (arith, size_cs)
-
-pub try_run-requires-clause-depths : goal.try_run-requires-clause-depths
-try_run-requires-clause-depths c =
+pub try_run-requires-clause-row : goal.try_run-requires-clause-row
+try_run-requires-clause-row c =
     let g = c.args.self.now.extent in
     let start = c.row_start-start.result in
     let end = start + g.width in
     let size_cs : length (take (end - start) (drop start c.as_mut_slice.result.now)) ≡ g.width = search rules in
     let size_ds : length (take (end - start) (drop start c.as_mut_slice-2.result.now)) ≡ g.width = search rules in
-    size_ds ∙ sym size_cs
+    let wide = c.requires.wide in
+    record { order = c.requires.order; inside = omega (arith, size_cs); alike = size_ds ∙ sym size_cs }
 
 pub returns : goal.returns
 returns c =
