@@ -44,20 +44,26 @@ class Count:
             print(f"{what}: {got!r}, and the definitions have {due!r}")
 
 
-def fields(kinds):
+def counts(text):
+    """Counts of codes that have a name in the definitions."""
+    return {name: int(count) for name, count in re.findall(r"^(\w+) = ([0-9]+)$", text, re.M)}
+
+
+def fields(kinds, named):
     """The letters and the codes of a row's fields."""
     letters, codes = "", []
     for kind in filter(None, (word.strip() for word in kinds.split("∷"))):
         name, _, count = kind.partition(" ")
         many = int(count) if name in ("Bytes", "Words") else 1
         letters += LETTERS[name] * many
-        codes += [int(count) if name == "Code" else None] * (len(LETTERS[name]) * many)
+        codes += [(named[count] if count in named else int(count)) if name == "Code" else None] * (len(LETTERS[name]) * many)
     return letters, tuple(codes)
 
 
 def table():
     text = (SPECS / "Commands.antt").read_text()
-    rows = [Command(int(number, 16), name, *fields(kinds), placement) for _, number, name, kinds, placement in ROW.findall(text)]
+    named = counts(text)
+    rows = [Command(int(number, 16), name, *fields(kinds, named), placement) for _, number, name, kinds, placement in ROW.findall(text)]
     declared = len(re.findall(r"^table_row op\.", text, re.M))
     if not rows or len(rows) != declared:
         sys.exit(f"command_lists.py: {len(rows)} of {declared} rows of the table of commands can be read")

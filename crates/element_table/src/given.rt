@@ -10,7 +10,7 @@ use crate::kind::{ELEMENT_COUNT, has_kind, kind_of};
 use crate::shared::has_sides;
 use rc_base::command::Texels;
 use rc_base::scene::Decl;
-use rc_base::state::ElementValue;
+use rc_base::state::{BLEND_FACTORS, ElementValue};
 
 fn is_depth(z: i32) -> bool
     ensures { result ≡ is_depth z }
@@ -51,7 +51,7 @@ fn is_pair_of(decl: &Decl, element: u8, pair: &[u8; 2]) -> bool
 {
     match element {
         10 => is_code(pair[0], 8),
-        15 => are_codes(pair[0], pair[1], 10),
+        15 => are_codes(pair[0], pair[1], BLEND_FACTORS),
         _ => is_binding(decl, pair[0], pair[1]),
     }
 }

@@ -6,7 +6,7 @@ ghost use Rattle.rc_base.specs.declared.state.Fault.TheVariants.{InvalidValue};
 
 use element_table::{are_codes, is_capability, is_code};
 use rc_base::command::Command;
-use rc_base::state::Fault;
+use rc_base::state::{BLEND_FACTORS, Fault};
 
 /// Whether a command may stand where a block is open, or where none is.
 pub fn may_stand_in(command: &Command, open_block: bool) -> bool
@@ -34,7 +34,7 @@ pub fn has_codes(command: &Command) -> bool
         Command::BlendFunc {
             source,
             destination,
-        } => are_codes(*source, *destination, 10),
+        } => are_codes(*source, *destination, BLEND_FACTORS),
         Command::CullFace { face } => is_code(*face, 3),
         Command::FrontFace { direction } => is_code(*direction, 2),
         Command::BindTexture { kind, .. } => is_code(*kind, 2),

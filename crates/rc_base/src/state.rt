@@ -18,6 +18,9 @@ pub type Vertices = Items<Vertex>;
 /// The first mode of the blocks of scenes of version 2, whose triangles are cut at the near plane.
 pub const CUT_MODES: u8 = 16;
 
+/// How many blend factors there are: their codes run from 0.
+pub const BLEND_FACTORS: u8 = 10;
+
 /// A block of triangles (0), a strip (1) or a fan (2). In a scene of version 2 its mode is `CUT_MODES` more.
 #[derive(Clone, Debug, PartialEq, Drop)]
 pub struct Block {

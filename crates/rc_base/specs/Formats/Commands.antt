@@ -77,6 +77,10 @@ row number name kinds placement = record { number = number; name = name; kinds =
 
 -- ---- the table
 
+-- how many blend factors there are
+abbrev pub blend_factors : ℕ
+blend_factors = 10
+
 abbrev pub table_row : Opcode → Row
 table_row op.Begin = row 0x01 (codes "Begin") (Code 3 ∷ []) Outside
 table_row op.End = row 0x02 (codes "End") [] Inside
@@ -97,7 +101,7 @@ table_row op.Scissor = row 0x10 (codes "Scissor") (Words 4 ∷ []) Outside
 table_row op.AlphaFunc = row 0x11 (codes "AlphaFunc") (Code 8 ∷ Byte ∷ []) Outside
 table_row op.DepthFunc = row 0x12 (codes "DepthFunc") (Code 8 ∷ []) Outside
 table_row op.DepthMask = row 0x13 (codes "DepthMask") (Byte ∷ []) Outside
-table_row op.BlendFunc = row 0x14 (codes "BlendFunc") (Code 10 ∷ Code 10 ∷ []) Outside
+table_row op.BlendFunc = row 0x14 (codes "BlendFunc") (Code blend_factors ∷ Code blend_factors ∷ []) Outside
 table_row op.ColorMask = row 0x15 (codes "ColorMask") (Bytes 4 ∷ []) Outside
 table_row op.ClearColor = row 0x16 (codes "ClearColor") (Byte ∷ Byte ∷ Byte ∷ Byte ∷ []) Outside
 table_row op.ClearDepth = row 0x17 (codes "ClearDepth") (Word ∷ []) Outside
