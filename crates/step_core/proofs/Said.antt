@@ -6,8 +6,7 @@ use Rattle.rc_base.specs.declared.cluster.ManagerMoved.{ManagerMoved}
 use Rattle.rc_base.specs.declared.cluster.ManagerMoved.TheVariants as manager_moved
 use Rattle.world_model.specs.declared.moves.Move.TheVariants.{Client as ClientMove, Manager as ManagerMove, Tile as TileMove}
 use Rattle.world_model.specs.declared.moves.TileAnswer.{TileAnswer}
-use Rattle.world_model.specs.declared.moves.TileAnswer.TheVariants.{Performed, Swapped, Learnt, Took, Held, Closed, Dropped, Blocked}
-use Rattle.world_model.specs.declared.moves.TileAnswer.TheVariants.{Ended as NothingLeft}
+use Rattle.world_model.specs.declared.moves.TileAnswer.TheVariants as tile_answer
 use Rattle.world_model.specs.declared.moves.Move.{Move}
 use Rattle.std.specs.Prelude.{Result, Ok}
 use Rattle.rc_base.specs.declared.out_of_memory.OutOfMemory.{OutOfMemory}
@@ -55,15 +54,15 @@ manager_tells (manager_moved.Drained client) = moves _ _ refl
 manager_tells manager_moved.Ended = ends _ _ refl (inr (inr refl)) refl
 
 tile_tells : (tile : ℕ) (a : TileAnswer) → IsSaid (TileMove tile a) (tile_said a)
-tile_tells tile Performed = moves _ _ refl (λ h. elim h [ inl x ↦ cc | inr x ↦ cc ]) (λ h. cc)
-tile_tells tile Swapped = moves _ _ refl (λ h. elim h [ inl x ↦ cc | inr x ↦ cc ]) (λ h. cc)
-tile_tells tile Learnt = moves _ _ refl (λ h. elim h [ inl x ↦ cc | inr x ↦ cc ]) (λ h. cc)
-tile_tells tile (Took client) = moves _ _ refl (λ h. elim h [ inl x ↦ cc | inr x ↦ cc ]) (λ h. cc)
-tile_tells tile (Held client) = moves _ _ refl (λ h. elim h [ inl x ↦ cc | inr x ↦ cc ]) (λ h. cc)
-tile_tells tile (Closed client) = moves _ _ refl (λ h. elim h [ inl x ↦ cc | inr x ↦ cc ]) (λ h. cc)
-tile_tells tile (Dropped client) = moves _ _ refl (λ h. elim h [ inl x ↦ cc | inr x ↦ cc ]) (λ h. cc)
-tile_tells tile Blocked = waits _ _ refl (inl refl) (λ h. cc)
-tile_tells tile NothingLeft = ends _ _ refl (inr refl) refl
+tile_tells tile tile_answer.Performed = moves _ _ refl (λ h. elim h [ inl x ↦ cc | inr x ↦ cc ]) (λ h. cc)
+tile_tells tile tile_answer.Swapped = moves _ _ refl (λ h. elim h [ inl x ↦ cc | inr x ↦ cc ]) (λ h. cc)
+tile_tells tile tile_answer.Learnt = moves _ _ refl (λ h. elim h [ inl x ↦ cc | inr x ↦ cc ]) (λ h. cc)
+tile_tells tile (tile_answer.Took client) = moves _ _ refl (λ h. elim h [ inl x ↦ cc | inr x ↦ cc ]) (λ h. cc)
+tile_tells tile (tile_answer.Held client) = moves _ _ refl (λ h. elim h [ inl x ↦ cc | inr x ↦ cc ]) (λ h. cc)
+tile_tells tile (tile_answer.Closed client) = moves _ _ refl (λ h. elim h [ inl x ↦ cc | inr x ↦ cc ]) (λ h. cc)
+tile_tells tile (tile_answer.Dropped client) = moves _ _ refl (λ h. elim h [ inl x ↦ cc | inr x ↦ cc ]) (λ h. cc)
+tile_tells tile tile_answer.Blocked = waits _ _ refl (inl refl) (λ h. cc)
+tile_tells tile tile_answer.Ended = ends _ _ refl (inr refl) refl
 
 pub tells : (move : Move) → IsSaid move (said_of move)
 tells (ClientMove client answer) = client_tells client answer
@@ -90,5 +89,5 @@ lasts (ManagerMove answer) = (λ h. h, λ h. h)
 lasts (TileMove tile answer) = (λ h. h, λ h. h)
 
 -- a tile that shows a part has moved
-pub swap_moves : (tile : ℕ) → IsResting (TileTurn tile (Ok Swapped)) → ⊥
-swap_moves tile h = (tile_tells tile Swapped).rest.0 h refl
+pub swap_moves : (tile : ℕ) → IsResting (TileTurn tile (Ok tile_answer.Swapped)) → ⊥
+swap_moves tile h = (tile_tells tile tile_answer.Swapped).rest.0 h refl

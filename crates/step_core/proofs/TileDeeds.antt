@@ -24,7 +24,7 @@ use Rattle.tile_server.specs.declared.deed.TileDeed.TheVariants.{Performs, Shows
 use Rattle.tile_server.specs.declared.deed.Taking.TheVariants.{Works, Holds, Closes, Drops, Loses}
 use Rattle.world_model.specs.Tiles as model
 use Rattle.world_model.specs.Tiles.{Tile, without_pixels, answer_to_act, answer_to_entry, parts_after, HasEnded, IsTileAnswer, IsUndue, FindsNoGrant, FindsNoParcel}
-use Rattle.world_model.specs.declared.moves.TileAnswer.TheVariants.{Performed as DonePerformed, Took as DoneTook, Held as DoneHeld, Closed as DoneClosed, Dropped as DoneDropped}
+use Rattle.world_model.specs.declared.moves.TileAnswer.TheVariants as tile_answer
 use Rattle.tile_model.proofs.ShownFrames.{after_swap, after_other, after_learnt, after_worked}
 use Rattle.step_core.specs.Changes.{with_shown}
 
@@ -89,34 +89,34 @@ none_granted short p Finishes h = refl
 answer_is : (x m : TileMoved) → ◌≡◌ {A = Result TileMoved OutOfMemory} (Ok x) (Ok m) → without_pixels m ≡ without_pixels x
 answer_is x m ok = ap without_pixels (let e : m ≡ x = cc in e)
 
-not_swap : (e : Entry) → e ≢ Swap → answer_to_entry e ≡ DonePerformed
+not_swap : (e : Entry) → e ≢ Swap → answer_to_entry e ≡ tile_answer.Performed
 not_swap (Meet barrier members) other = refl
 not_swap Swap other = absurd (other refl)
 not_swap (Give semaphore client) other = refl
 not_swap (Take semaphore client) other = refl
 
-worked : (held : Bool) (client : ℕ) (a : Act) → held ≡ false → is_work a ≡ true → answer_to_act held client a ≡ DoneTook client
+worked : (held : Bool) (client : ℕ) (a : Act) → held ≡ false → is_work a ≡ true → answer_to_act held client a ≡ tile_answer.Took client
 worked held client (act.Draw block) free work = rw free refl
 worked held client (act.Clear mask) free work = rw free refl
 worked held client (act.Shared part) free work = rw free refl
 worked held client (act.Sync op) free work = absurd cc
 worked held client act.End free work = absurd cc
 
-waited : (held : Bool) (client : ℕ) (a : Act) → held ≡ false → is_wait a ≡ true → answer_to_act held client a ≡ DoneHeld client
+waited : (held : Bool) (client : ℕ) (a : Act) → held ≡ false → is_wait a ≡ true → answer_to_act held client a ≡ tile_answer.Held client
 waited held client (act.Draw block) free wait = absurd cc
 waited held client (act.Clear mask) free wait = absurd cc
 waited held client (act.Shared part) free wait = absurd cc
 waited held client (act.Sync op) free wait = rw free refl
 waited held client act.End free wait = absurd cc
 
-closed : (held : Bool) (client : ℕ) (a : Act) → is_end a ≡ true → answer_to_act held client a ≡ DoneClosed client
+closed : (held : Bool) (client : ℕ) (a : Act) → is_end a ≡ true → answer_to_act held client a ≡ tile_answer.Closed client
 closed held client (act.Draw block) end = absurd cc
 closed held client (act.Clear mask) end = absurd cc
 closed held client (act.Shared part) end = absurd cc
 closed held client (act.Sync op) end = absurd cc
 closed held client act.End end = refl
 
-dropped : (held : Bool) (client : ℕ) (a : Act) → held ≡ true → is_end a ≡ false → answer_to_act held client a ≡ DoneDropped client
+dropped : (held : Bool) (client : ℕ) (a : Act) → held ≡ true → is_end a ≡ false → answer_to_act held client a ≡ tile_answer.Dropped client
 dropped held client (act.Draw block) is more = rw is refl
 dropped held client (act.Clear mask) is more = rw is refl
 dropped held client (act.Shared part) is more = rw is refl

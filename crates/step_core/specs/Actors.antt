@@ -4,8 +4,7 @@ use Rattle.rc_base.specs.declared.cluster.ClientMoved.TheVariants as client_move
 use Rattle.rc_base.specs.declared.cluster.ManagerMoved.{ManagerMoved}
 use Rattle.rc_base.specs.declared.cluster.ManagerMoved.TheVariants as manager_moved
 use Rattle.world_model.specs.declared.moves.TileAnswer.{TileAnswer}
-use Rattle.world_model.specs.declared.moves.TileAnswer.TheVariants.{Performed, Swapped, Learnt, Took, Held, Closed, Dropped, Blocked}
-use Rattle.world_model.specs.declared.moves.TileAnswer.TheVariants.{Ended as NothingLeft}
+use Rattle.world_model.specs.declared.moves.TileAnswer.TheVariants as tile_answer
 use Rattle.world_model.specs.declared.moves.Move.{Move}
 use Rattle.world_model.specs.declared.moves.Move.TheVariants.{Client as ClientMove, Manager as ManagerMove, Tile as TileMove}
 use Rattle.step_core.specs.declared.actor.Stepped.{Stepped}
@@ -28,15 +27,15 @@ manager_said (manager_moved.Drained client) = Moved
 manager_said manager_moved.Ended = Ended
 
 abbrev pub tile_said : TileAnswer → Stepped
-tile_said Performed = Moved
-tile_said Swapped = Moved
-tile_said Learnt = Moved
-tile_said (Took client) = Moved
-tile_said (Held client) = Moved
-tile_said (Closed client) = Moved
-tile_said (Dropped client) = Moved
-tile_said Blocked = Waits
-tile_said NothingLeft = Ended
+tile_said tile_answer.Performed = Moved
+tile_said tile_answer.Swapped = Moved
+tile_said tile_answer.Learnt = Moved
+tile_said (tile_answer.Took client) = Moved
+tile_said (tile_answer.Held client) = Moved
+tile_said (tile_answer.Closed client) = Moved
+tile_said (tile_answer.Dropped client) = Moved
+tile_said tile_answer.Blocked = Waits
+tile_said tile_answer.Ended = Ended
 
 -- what a move's answer comes to
 abbrev pub said_of : Move → Stepped

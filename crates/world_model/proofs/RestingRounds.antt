@@ -22,7 +22,7 @@ use Rattle.world_model.specs.Turns.Turn.{ClientTurn, ManagerTurn, TileTurn}
 use Rattle.world_model.specs.World.{World, Client, Lanes, all_lanes, client_total}
 use Rattle.world_model.specs.declared.moves.Move.TheVariants.{Tile as TileMove}
 use Rattle.world_model.specs.declared.moves.TileAnswer.{TileAnswer}
-use Rattle.world_model.specs.declared.moves.TileAnswer.TheVariants.{Closed, Dropped, Blocked, Ended}
+use Rattle.world_model.specs.declared.moves.TileAnswer.TheVariants as tile_answer
 use Rattle.world_model.proofs.EndedWorldsRest.{same_self, same_on}
 use Rattle.world_model.proofs.RestChangesNothing.{client_rests as client_still, manager_rests as manager_still, tile_rests as tile_still, equal_tiles}
 
@@ -34,7 +34,7 @@ pick_of P number k (m ∷ turns) (inr has) h = pick_of P number k turns has h.1
 
 module _ (scene : Scene) (l : Layout) (depth : ℕ) where
   -- a short tile at rest has no item
-  pub no_short_item : (p : Progress) (item : Item) (answer : TileAnswer) → IsShortAnswer p item answer → (answer ≡ Blocked) ⊎ (answer ≡ Ended) → item ≡ Nothing
+  pub no_short_item : (p : Progress) (item : Item) (answer : TileAnswer) → IsShortAnswer p item answer → (answer ≡ tile_answer.Blocked) ⊎ (answer ≡ tile_answer.Ended) → item ≡ Nothing
   no_short_item p Nothing answer is rest = refl
   no_short_item p (Due e) answer is rest = absurd is
   no_short_item p (Granted e) answer is (inl b) = absurd cc
@@ -43,7 +43,7 @@ module _ (scene : Scene) (l : Layout) (depth : ℕ) where
   no_short_item p NoMore answer is (inr b) = absurd cc
   no_short_item p (Sent client parcel) answer is rest = absurd (neither (is_end parcel.act) client answer is rest)
     where
-      neither : (b : Bool) (client : ℕ) (answer : TileAnswer) → answer ≡ cond b (Closed client) (Dropped client) → (answer ≡ Blocked) ⊎ (answer ≡ Ended) → ⊥
+      neither : (b : Bool) (client : ℕ) (answer : TileAnswer) → answer ≡ cond b (tile_answer.Closed client) (tile_answer.Dropped client) → (answer ≡ tile_answer.Blocked) ⊎ (answer ≡ tile_answer.Ended) → ⊥
       neither true client answer is (inl e) = cc
       neither true client answer is (inr e) = cc
       neither false client answer is (inl e) = cc

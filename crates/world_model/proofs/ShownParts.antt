@@ -21,7 +21,7 @@ use Rattle.world_model.specs.Short.{IsShortAnswer}
 use Rattle.world_model.specs.Threaded.{Offers, IsPut}
 use Rattle.world_model.specs.Tiles.{IsTileAnswer, answer_to_act}
 use Rattle.world_model.specs.declared.moves.TileAnswer.{TileAnswer}
-use Rattle.world_model.specs.declared.moves.TileAnswer.TheVariants.{Performed, Swapped, Learnt, Took, Held, Closed, Dropped, Blocked, Ended}
+use Rattle.world_model.specs.declared.moves.TileAnswer.TheVariants as tile_answer
 
 -- ---- frames of a journal
 
@@ -45,21 +45,21 @@ frames_near n xs ys journal e near =
 
 -- ---- steps without a part
 
-pub none_offered : (answer : TileAnswer) (offered : Option TilePart) → (answer ≡ Swapped → ⊥) → Offers (Ok answer) offered → offered ≡ None
-none_offered Performed offered other h = h
-none_offered Swapped offered other h = absurd (other refl)
-none_offered Learnt offered other h = h
-none_offered (Took client) offered other h = h
-none_offered (Held client) offered other h = h
-none_offered (Closed client) offered other h = h
-none_offered (Dropped client) offered other h = h
-none_offered Blocked offered other h = h
-none_offered Ended offered other h = h
+pub none_offered : (answer : TileAnswer) (offered : Option TilePart) → (answer ≡ tile_answer.Swapped → ⊥) → Offers (Ok answer) offered → offered ≡ None
+none_offered tile_answer.Performed offered other h = h
+none_offered tile_answer.Swapped offered other h = absurd (other refl)
+none_offered tile_answer.Learnt offered other h = h
+none_offered (tile_answer.Took client) offered other h = h
+none_offered (tile_answer.Held client) offered other h = h
+none_offered (tile_answer.Closed client) offered other h = h
+none_offered (tile_answer.Dropped client) offered other h = h
+none_offered tile_answer.Blocked offered other h = h
+none_offered tile_answer.Ended offered other h = h
 
-other_than : (answer other : TileAnswer) → answer ≡ other → (other ≡ Swapped → ⊥) → answer ≡ Swapped → ⊥
+other_than : (answer other : TileAnswer) → answer ≡ other → (other ≡ tile_answer.Swapped → ⊥) → answer ≡ tile_answer.Swapped → ⊥
 other_than answer other is differs e = differs (sym is ∙ e)
 
-act_silent : (held : Bool) (client : ℕ) (a : Act) → answer_to_act held client a ≡ Swapped → ⊥
+act_silent : (held : Bool) (client : ℕ) (a : Act) → answer_to_act held client a ≡ tile_answer.Swapped → ⊥
 act_silent true client (act.Draw block) e = cc
 act_silent false client (act.Draw block) e = cc
 act_silent true client (act.Clear mask) e = cc
@@ -70,7 +70,7 @@ act_silent true client (act.Sync op) e = cc
 act_silent false client (act.Sync op) e = cc
 act_silent held client act.End e = cc
 
-end_silent : (b : Bool) (client : ℕ) → cond b (Closed client) (Dropped client) ≡ Swapped → ⊥
+end_silent : (b : Bool) (client : ℕ) → cond b (tile_answer.Closed client) (tile_answer.Dropped client) ≡ tile_answer.Swapped → ⊥
 end_silent true client e = cc
 end_silent false client e = cc
 
@@ -82,23 +82,23 @@ no_more n m offered none e = let z = ap (λ (o : Option TilePart). length (optio
 -- it has performed one Swap more exactly where it has a part
 pub parts_by_item : (p : Progress) (item : Item) (answer : TileAnswer) (offered : Option TilePart) → IsAwaited p item → IsTileAnswer p item answer → Offers (Ok answer) offered
     → shown_frames (after_item p item) ≡ shown_frames p + length (option_to_list offered)
-parts_by_item p Nothing answer offered awaited (inl is) h = no_more _ _ offered (none_offered answer offered (other_than answer Ended is.0 (λ e. cc)) h) refl
-parts_by_item p Nothing answer offered awaited (inr is) h = no_more _ _ offered (none_offered answer offered (other_than answer Blocked is.0 (λ e. cc)) h) refl
+parts_by_item p Nothing answer offered awaited (inl is) h = no_more _ _ offered (none_offered answer offered (other_than answer tile_answer.Ended is.0 (λ e. cc)) h) refl
+parts_by_item p Nothing answer offered awaited (inr is) h = no_more _ _ offered (none_offered answer offered (other_than answer tile_answer.Blocked is.0 (λ e. cc)) h) refl
 parts_by_item p (Due (Meet barrier members)) answer offered awaited is h =
-    no_more _ _ offered (none_offered answer offered (other_than answer Performed is (λ e. cc)) h) (not_shown p (Meet barrier members) awaited.0 refl).frames
+    no_more _ _ offered (none_offered answer offered (other_than answer tile_answer.Performed is (λ e. cc)) h) (not_shown p (Meet barrier members) awaited.0 refl).frames
 parts_by_item p (Due Swap) answer offered awaited is h =
     let there = subst (λ (a : TileAnswer). Offers (Ok a) offered) is h in
     let one = ap (λ (o : Option TilePart). length (option_to_list o)) there.1 in
     let n = one_shown p awaited.0 in
     omega (arith, one, n)
 parts_by_item p (Due (Give semaphore client)) answer offered awaited is h =
-    no_more _ _ offered (none_offered answer offered (other_than answer Performed is (λ e. cc)) h) (not_shown p (Give semaphore client) awaited.0 refl).frames
+    no_more _ _ offered (none_offered answer offered (other_than answer tile_answer.Performed is (λ e. cc)) h) (not_shown p (Give semaphore client) awaited.0 refl).frames
 parts_by_item p (Due (Take semaphore client)) answer offered awaited is h =
-    no_more _ _ offered (none_offered answer offered (other_than answer Performed is (λ e. cc)) h) (not_shown p (Take semaphore client) awaited.0 refl).frames
+    no_more _ _ offered (none_offered answer offered (other_than answer tile_answer.Performed is (λ e. cc)) h) (not_shown p (Take semaphore client) awaited.0 refl).frames
 parts_by_item p (Granted e) answer offered awaited is h =
-    no_more _ _ offered (none_offered answer offered (other_than answer Learnt is (λ e. cc)) h)
+    no_more _ _ offered (none_offered answer offered (other_than answer tile_answer.Learnt is (λ e. cc)) h)
     (learns_shows p e (let same = (listens p awaited).1 in omega (arith, same))).frames
-parts_by_item p NoMore answer offered awaited is h = no_more _ _ offered (none_offered answer offered (other_than answer Learnt is (λ e. cc)) h) refl
+parts_by_item p NoMore answer offered awaited is h = no_more _ _ offered (none_offered answer offered (other_than answer tile_answer.Learnt is (λ e. cc)) h) refl
 parts_by_item p (Sent client parcel) answer offered awaited is h =
     no_more _ _ offered (none_offered answer offered (λ e. act_silent (p.held client) client parcel.act (sym is ∙ e)) h) (act_shows p client parcel.act parcel.place).frames
 
@@ -114,11 +114,11 @@ lost_shows p (Sent client parcel) = elim (cases_Bool (is_end parcel.act)) [ inl 
 
 -- and has no part
 pub short_offers_none : (p : Progress) (item : Item) (answer : TileAnswer) (offered : Option TilePart) → IsShortAnswer p item answer → Offers (Ok answer) offered → offered ≡ None
-short_offers_none p Nothing answer offered (inl is) h = none_offered answer offered (other_than answer Ended is.0 (λ e. cc)) h
-short_offers_none p Nothing answer offered (inr is) h = none_offered answer offered (other_than answer Blocked is.0 (λ e. cc)) h
+short_offers_none p Nothing answer offered (inl is) h = none_offered answer offered (other_than answer tile_answer.Ended is.0 (λ e. cc)) h
+short_offers_none p Nothing answer offered (inr is) h = none_offered answer offered (other_than answer tile_answer.Blocked is.0 (λ e. cc)) h
 short_offers_none p (Due e) answer offered is h = absurd is
-short_offers_none p (Granted e) answer offered is h = none_offered answer offered (other_than answer Learnt is (λ e. cc)) h
-short_offers_none p NoMore answer offered is h = none_offered answer offered (other_than answer Learnt is (λ e. cc)) h
+short_offers_none p (Granted e) answer offered is h = none_offered answer offered (other_than answer tile_answer.Learnt is (λ e. cc)) h
+short_offers_none p NoMore answer offered is h = none_offered answer offered (other_than answer tile_answer.Learnt is (λ e. cc)) h
 short_offers_none p (Sent client parcel) answer offered is h = none_offered answer offered (λ e. end_silent (is_end parcel.act) client (sym is ∙ e)) h
 
 -- ---- a part on its way

@@ -21,7 +21,7 @@ use Rattle.sync_manager.specs.Progress.{ManagerProgress}
 use Rattle.world_model.specs.Flowing.{asks, IsFlowing}
 use Rattle.world_model.specs.Laws.{IsSameWorld, NewWorldsFlow, RestingTurnsChangeNothing, TurnsKeepWorldsFlowing}
 use Rattle.world_model.specs.Tiles.{Tile}
-use Rattle.world_model.specs.declared.moves.TileAnswer.TheVariants.{Performed, Swapped, Learnt, Took, Held, Closed, Dropped, Blocked, Ended}
+use Rattle.world_model.specs.declared.moves.TileAnswer.TheVariants as tile_answer
 use Rattle.world_model.specs.Turns.{Turn, AreTurns, IsResting, turn_of}
 use Rattle.world_model.specs.Turns.Turn.{ClientTurn, ManagerTurn, TileTurn}
 use Rattle.world_model.specs.Work.{total, one_unless, operations, client_work, tile_work, work_in, TurnsLeaveLess, TurnsLeaveNoMore, RoundsLeaveLess, NewWorldsHaveLittleToDo, SteppedRunsHaveLittleToDo}
@@ -177,15 +177,15 @@ rests (ManagerTurn (Ok manager_moved.BlockedRequest)) = inl (inr (inl refl))
 rests (ManagerTurn (Ok (manager_moved.Drained client))) = inr (λ h. elim h [ inl x ↦ (let y = x.1 in cc) | inr x ↦ elim x [ inl y ↦ cc | inr y ↦ cc ] ])
 rests (ManagerTurn (Ok manager_moved.Ended)) = inl (inr (inr refl))
 rests (ManagerTurn (Err error)) = inr (λ h. h)
-rests (TileTurn tile (Ok Performed)) = inr (λ h. elim h [ inl x ↦ cc | inr x ↦ cc ])
-rests (TileTurn tile (Ok Swapped)) = inr (λ h. elim h [ inl x ↦ cc | inr x ↦ cc ])
-rests (TileTurn tile (Ok Learnt)) = inr (λ h. elim h [ inl x ↦ cc | inr x ↦ cc ])
-rests (TileTurn tile (Ok (Took client))) = inr (λ h. elim h [ inl x ↦ cc | inr x ↦ cc ])
-rests (TileTurn tile (Ok (Held client))) = inr (λ h. elim h [ inl x ↦ cc | inr x ↦ cc ])
-rests (TileTurn tile (Ok (Closed client))) = inr (λ h. elim h [ inl x ↦ cc | inr x ↦ cc ])
-rests (TileTurn tile (Ok (Dropped client))) = inr (λ h. elim h [ inl x ↦ cc | inr x ↦ cc ])
-rests (TileTurn tile (Ok Blocked)) = inl (inl refl)
-rests (TileTurn tile (Ok Ended)) = inl (inr refl)
+rests (TileTurn tile (Ok tile_answer.Performed)) = inr (λ h. elim h [ inl x ↦ cc | inr x ↦ cc ])
+rests (TileTurn tile (Ok tile_answer.Swapped)) = inr (λ h. elim h [ inl x ↦ cc | inr x ↦ cc ])
+rests (TileTurn tile (Ok tile_answer.Learnt)) = inr (λ h. elim h [ inl x ↦ cc | inr x ↦ cc ])
+rests (TileTurn tile (Ok (tile_answer.Took client))) = inr (λ h. elim h [ inl x ↦ cc | inr x ↦ cc ])
+rests (TileTurn tile (Ok (tile_answer.Held client))) = inr (λ h. elim h [ inl x ↦ cc | inr x ↦ cc ])
+rests (TileTurn tile (Ok (tile_answer.Closed client))) = inr (λ h. elim h [ inl x ↦ cc | inr x ↦ cc ])
+rests (TileTurn tile (Ok (tile_answer.Dropped client))) = inr (λ h. elim h [ inl x ↦ cc | inr x ↦ cc ])
+rests (TileTurn tile (Ok tile_answer.Blocked)) = inl (inl refl)
+rests (TileTurn tile (Ok tile_answer.Ended)) = inl (inr refl)
 rests (TileTurn tile (Err error)) = inr (λ h. h)
 
 pub no_more : RestingTurnsChangeNothing → TurnsLeaveLess → TurnsLeaveNoMore

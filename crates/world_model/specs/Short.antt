@@ -9,7 +9,7 @@ use Rattle.tile_model.specs.Items.Item.{Nothing, Due, Granted, NoMore, Sent}
 use Rattle.tile_model.specs.Short.{listens, asks, IsFinished}
 use Rattle.world_model.specs.Tiles.{Tile}
 use Rattle.world_model.specs.declared.moves.TileAnswer.{TileAnswer}
-use Rattle.world_model.specs.declared.moves.TileAnswer.TheVariants.{Learnt, Closed, Dropped, Blocked, Ended}
+use Rattle.world_model.specs.declared.moves.TileAnswer.TheVariants as tile_answer
 
 -- the item may come
 abbrev pub IsAwaitedShort : Progress → Item → Type 0
@@ -20,11 +20,11 @@ IsAwaitedShort p NoMore = listens true p ≡ true
 IsAwaitedShort p (Sent client parcel) = (client < p.count) × (asks true p client ≡ true)
 
 abbrev pub IsShortAnswer : Progress → Item → TileAnswer → Type 0
-IsShortAnswer p Nothing answer = ((answer ≡ Ended) × IsFinished true p) ⊎ ((answer ≡ Blocked) × (IsFinished true p → ⊥))
+IsShortAnswer p Nothing answer = ((answer ≡ tile_answer.Ended) × IsFinished true p) ⊎ ((answer ≡ tile_answer.Blocked) × (IsFinished true p → ⊥))
 IsShortAnswer p (Due e) answer = ⊥
-IsShortAnswer p (Granted e) answer = answer ≡ Learnt
-IsShortAnswer p NoMore answer = answer ≡ Learnt
-IsShortAnswer p (Sent client parcel) answer = answer ≡ cond (is_end parcel.act) (Closed client) (Dropped client)
+IsShortAnswer p (Granted e) answer = answer ≡ tile_answer.Learnt
+IsShortAnswer p NoMore answer = answer ≡ tile_answer.Learnt
+IsShortAnswer p (Sent client parcel) answer = answer ≡ cond (is_end parcel.act) (tile_answer.Closed client) (tile_answer.Dropped client)
 
 -- where it takes nothing, or a parcel, its grant lane was tried before, and found empty
 abbrev pub FindsNoGrantShort : Progress → Item → Type 0

@@ -12,7 +12,7 @@ use Rattle.assembler.specs.Assembled.{places_of, short_of, AreNewParts, IsAssemb
 use Rattle.assembler.specs.Places.{in_place}
 use Rattle.assembler.specs.declared.frame_parts.FrameParts.{FrameParts}
 use Rattle.world_model.specs.declared.moves.TileAnswer.{TileAnswer}
-use Rattle.world_model.specs.declared.moves.TileAnswer.TheVariants.{Performed, Swapped, Learnt, Took, Held, Closed, Dropped, Blocked, Ended}
+use Rattle.world_model.specs.declared.moves.TileAnswer.TheVariants as tile_answer
 use Rattle.world_model.specs.Turns.{Turn, IsTurnSeeing, IsResting, number_of, AllHaveStopped}
 use Rattle.world_model.specs.Turns.Turn.{ClientTurn, ManagerTurn, TileTurn}
 use Rattle.world_model.specs.World.{World, Lanes, all_lanes, client_total, IsNewWorld}
@@ -110,15 +110,15 @@ IsPut depth (Some part) lane seen later handing = IsSent depth part lane later h
 
 -- What a tile's step has for the caller: the part that it shows, whatever its pixels are; where memory lacked, one without pixels.
 abbrev pub Offers : Result TileAnswer OutOfMemory → Option TilePart → Type 0
-Offers (Ok Performed) offered = offered ≡ None
-Offers (Ok Swapped) offered = (part : TilePart) × (offered ≡ Some part)
-Offers (Ok Learnt) offered = offered ≡ None
-Offers (Ok (Took client)) offered = offered ≡ None
-Offers (Ok (Held client)) offered = offered ≡ None
-Offers (Ok (Closed client)) offered = offered ≡ None
-Offers (Ok (Dropped client)) offered = offered ≡ None
-Offers (Ok Blocked) offered = offered ≡ None
-Offers (Ok Ended) offered = offered ≡ None
+Offers (Ok tile_answer.Performed) offered = offered ≡ None
+Offers (Ok tile_answer.Swapped) offered = (part : TilePart) × (offered ≡ Some part)
+Offers (Ok tile_answer.Learnt) offered = offered ≡ None
+Offers (Ok (tile_answer.Took client)) offered = offered ≡ None
+Offers (Ok (tile_answer.Held client)) offered = offered ≡ None
+Offers (Ok (tile_answer.Closed client)) offered = offered ≡ None
+Offers (Ok (tile_answer.Dropped client)) offered = offered ≡ None
+Offers (Ok tile_answer.Blocked) offered = offered ≡ None
+Offers (Ok tile_answer.Ended) offered = offered ≡ None
 Offers (Err lack) offered = (part : TilePart) × (offered ≡ Some part) × (part.pixels ≡ [])
 
 -- ---- what a turn does

@@ -17,7 +17,7 @@ use Rattle.tile_model.specs.Items.{Item, after_item, IsAwaited}
 use Rattle.tile_model.specs.Items.Item.{Nothing, Due, Granted, NoMore, Sent}
 use Rattle.tile_model.specs.Short.{NothingIsDue}
 use Rattle.world_model.specs.declared.moves.TileAnswer.{TileAnswer}
-use Rattle.world_model.specs.declared.moves.TileAnswer.TheVariants.{Performed, Swapped, Learnt, Took, Held, Closed, Dropped, Blocked, Ended}
+use Rattle.world_model.specs.declared.moves.TileAnswer.TheVariants as tile_answer
 
 -- how far it is, the client with which its rotation goes on, its board, the pixels that it has shown, one part for each frame, and whether memory
 -- has lacked
@@ -101,15 +101,15 @@ FindsNoParcel a (Sent client parcel) i = IsEarlier a.next client i × (is_asked 
 
 -- what a step answers, without the pixels of a Swap
 abbrev pub without_pixels : TileMoved → TileAnswer
-without_pixels moved.Performed = Performed
-without_pixels (moved.Swapped part) = Swapped
-without_pixels moved.Learnt = Learnt
-without_pixels (moved.Took client) = Took client
-without_pixels (moved.Held client) = Held client
-without_pixels (moved.Closed client) = Closed client
-without_pixels (moved.Dropped client) = Dropped client
-without_pixels moved.Blocked = Blocked
-without_pixels moved.Ended = Ended
+without_pixels moved.Performed = tile_answer.Performed
+without_pixels (moved.Swapped part) = tile_answer.Swapped
+without_pixels moved.Learnt = tile_answer.Learnt
+without_pixels (moved.Took client) = tile_answer.Took client
+without_pixels (moved.Held client) = tile_answer.Held client
+without_pixels (moved.Closed client) = tile_answer.Closed client
+without_pixels (moved.Dropped client) = tile_answer.Dropped client
+without_pixels moved.Blocked = tile_answer.Blocked
+without_pixels moved.Ended = tile_answer.Ended
 
 -- nothing is left to do
 pub record HasEnded (p : Progress) : Type 0 where
@@ -117,22 +117,22 @@ pub record HasEnded (p : Progress) : Type 0 where
   pub closed : (client : ℕ) → client < p.count → p.closed client ≡ true
 
 abbrev pub answer_to_entry : Entry → TileAnswer
-answer_to_entry (Meet barrier members) = Performed
-answer_to_entry Swap = Swapped
-answer_to_entry (Give semaphore client) = Performed
-answer_to_entry (Take semaphore client) = Performed
+answer_to_entry (Meet barrier members) = tile_answer.Performed
+answer_to_entry Swap = tile_answer.Swapped
+answer_to_entry (Give semaphore client) = tile_answer.Performed
+answer_to_entry (Take semaphore client) = tile_answer.Performed
 
 -- to a parcel of a client that is held, or isn't
 abbrev pub answer_to_act : Bool → ℕ → Act → TileAnswer
-answer_to_act held client (act.Draw block) = cond held (Dropped client) (Took client)
-answer_to_act held client (act.Clear mask) = cond held (Dropped client) (Took client)
-answer_to_act held client (act.Shared part) = cond held (Dropped client) (Took client)
-answer_to_act held client (act.Sync op) = cond held (Dropped client) (Held client)
-answer_to_act held client act.End = Closed client
+answer_to_act held client (act.Draw block) = cond held (tile_answer.Dropped client) (tile_answer.Took client)
+answer_to_act held client (act.Clear mask) = cond held (tile_answer.Dropped client) (tile_answer.Took client)
+answer_to_act held client (act.Shared part) = cond held (tile_answer.Dropped client) (tile_answer.Took client)
+answer_to_act held client (act.Sync op) = cond held (tile_answer.Dropped client) (tile_answer.Held client)
+answer_to_act held client act.End = tile_answer.Closed client
 
 abbrev pub IsTileAnswer : Progress → Item → TileAnswer → Type 0
-IsTileAnswer p Nothing answer = ((answer ≡ Ended) × HasEnded p) ⊎ ((answer ≡ Blocked) × (HasEnded p → ⊥))
+IsTileAnswer p Nothing answer = ((answer ≡ tile_answer.Ended) × HasEnded p) ⊎ ((answer ≡ tile_answer.Blocked) × (HasEnded p → ⊥))
 IsTileAnswer p (Due e) answer = answer ≡ answer_to_entry e
-IsTileAnswer p (Granted e) answer = answer ≡ Learnt
-IsTileAnswer p NoMore answer = answer ≡ Learnt
+IsTileAnswer p (Granted e) answer = answer ≡ tile_answer.Learnt
+IsTileAnswer p NoMore answer = answer ≡ tile_answer.Learnt
 IsTileAnswer p (Sent client parcel) answer = answer ≡ answer_to_act (p.held client) client parcel.act
