@@ -48,10 +48,6 @@ pub record IsFoundIn (own : ℕ) (clock cell : List ℕ) (spot : Spot) (x : Foun
 abbrev pub AreCounted : List ℕ → List ℕ → ℕ → Type 0
 AreCounted clock cell n = (d : ℕ) → d < n → slice_index cell d ≤ slice_index clock d
 
--- of each client the clock counts all uses of one of two cells
-abbrev pub AreEitherCounted : List ℕ → List ℕ → List ℕ → Type 0
-AreEitherCounted clock one other = (d : ℕ) → d < 8 → (slice_index one d ≤ slice_index clock d) ⊎ (slice_index other d ≤ slice_index clock d)
-
 -- no cell is used
 abbrev pub AreUnused : ℕ → List (List ℕ) → Type 0
 AreUnused count cells = cells ≡ replicate count (replicate 8 0)

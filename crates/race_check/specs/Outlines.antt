@@ -82,10 +82,6 @@ pub record AreMarked (n : Name) (r : Range) (old new : List (List ℕ)) : Type 0
 abbrev pub HasMarked : Name → Range → Cells → Cells → Type 0
 HasMarked n r before after = AreMarked n r before.cells.items after.cells.items
 
--- each client's number isn't below any in the cells of a range
-abbrev pub IsGreatest : List (List ℕ) → Range → List ℕ → Type 0
-IsGreatest cells r most = (d : ℕ) → d < 8 → (i : ℕ) → IsAmong r i → slice_index (cell_at cells i) d ≤ slice_index most d
-
 -- the clock counts all that the cells of a range tell of a client
 abbrev pub AreCountedIn : List ℕ → List (List ℕ) → Range → ℕ → Type 0
 AreCountedIn clock cells r d = (i : ℕ) → IsAmong r i → slice_index (cell_at cells i) d ≤ slice_index clock d

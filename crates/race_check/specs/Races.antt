@@ -1,8 +1,10 @@
 -- Which conflicts of commands nothing orders, and the verdict on an order of commands.
 use Rattle.std.specs.Prelude.{◌≡◌, ℕ, ◌<◌, ◌≤◌, true, List, ◌⊎◌}
+use Rattle.rc_base.specs.Formats.Within.{IsWithin}
 use Rattle.rc_base.specs.Lists.{Stands}
 use Rattle.rc_base.specs.Orders.Footprints.{footprint_of}
-use Rattle.rc_base.specs.Orders.Order.{Footprint, Conflicts, Uses}
+use Rattle.rc_base.specs.Orders.Order.{Footprint, Conflicts, IsPermitted, Uses}
+use Rattle.rc_base.specs.Orders.Sync.{sync_lists_of}
 use Rattle.rc_base.specs.declared.scene.Scene.{Scene}
 use Rattle.rc_base.specs.declared.sync.Entry.{Entry}
 use Rattle.rc_base.specs.declared.sync.Name.{Name}
@@ -45,6 +47,12 @@ pub record IsFirstRace (syncs : SyncLists) (journal : List Entry) (order : List 
 abbrev pub IsVerdict : SyncLists → List Entry → List Name → Footprint (ℕ × ℕ) → Verdict → Type 0
 IsVerdict syncs journal order f Ordered = AreConflictsOrdered syncs journal f
 IsVerdict syncs journal order f (Race first second spot) = IsFirstRace syncs journal order f first second spot
+
+-- the lists are those of a scene within the limits, and the journal permits the order
+pub record IsOrderOfScene (scene : Scene) (syncs : SyncLists) (journal : List Entry) (order : List Name) : Type 0 where
+  pub within : IsWithin scene
+  pub lists : syncs ≡ sync_lists_of scene
+  pub permitted : IsPermitted syncs journal order
 
 -- nothing races in the scene: of every two conflicting commands one is before the other
 abbrev pub NoRaces : SyncLists → List Entry → Scene → Type 0

@@ -1,5 +1,5 @@
 -- What a name that touches pixels leaves of their cells, and what it finds.
-use Rattle.std.specs.Prelude.{◌≡◌, ℕ, ◌+◌, ◌*◌, ◌^◌, ◌<◌, ◌&&◌, Bool, true, cond, length, List, pos, ◌≤ℤ◌, ◌⊎◌, ◌↔◌, Option}
+use Rattle.std.specs.Prelude.{◌≡◌, ℕ, ◌+◌, ◌*◌, ◌^◌, ◌<◌, ◌&&◌, Bool, true, cond, length, List, pos, ◌≤ℤ◌, ◌⊎◌, ◌↔◌}
 use Rattle.std.specs.List.{list_any}
 use Rattle.rc_base.specs.Cluster.Tiles.{is_in_rect}
 use Rattle.rc_base.specs.Drawing.Cover.{is_inside, is_in_scissor}
@@ -42,12 +42,6 @@ pub record IsTouch (has : ℕ → ℕ → Bool) (v : Visit) (old new : List (Lis
   pub some : (after.some ≡ true) ↔ ((before.some ≡ true) ⊎ SomePasses v.width v.height has)
 
 -- the same of the cells of a table
-abbrev pub AreTouchedIn : (ℕ → ℕ → Bool) → Visit → Cells → Cells → Type 0
-AreTouchedIn has v before after = AreTouched has v before.cells.items after.cells.items
-
-abbrev pub TellsWhere : (ℕ → ℕ → Bool) → Visit → Cells → Option Found → Option Found → Type 0
-TellsWhere has v table best told = IsFirst (OrBefore best (IsFoundWhere has v table.cells.items)) told
-
 pub record Touches (has : ℕ → ℕ → Bool) (v : Visit) (before after : Cells) (seen later : Seen) : Type 0 where
   pub size : length after.cells.items ≡ length before.cells.items
   pub touched : IsTouch has v before.cells.items after.cells.items seen later
@@ -66,6 +60,11 @@ pub record IsWithinWindow (width height : ℕ) (part : Rect) : Type 0 where
   pub right : part.x1 ≤ℤ pos width
   pub bottom : pos 0 ≤ℤ part.y0
   pub top : part.y1 ≤ℤ pos height
+
+-- it is a part of the window that is visited
+pub record IsPartVisited (v : Visit) (pixels : Cells) (r : Rect) : Type 0 where
+  pub visit : IsVisitOf v pixels
+  pub part : IsWithinWindow v.width v.height r
 
 -- the triangle covers the pixel of the part
 abbrev pub triangle_has : List WindowVertex → Rect → ℕ → ℕ → Bool

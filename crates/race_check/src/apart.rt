@@ -2,12 +2,10 @@
 ghost use Rattle.std.specs.Prelude.{◌≡◌, ◌+◌, ◌<◌, ◌^◌, true, IfOk, OnOk};
 ghost use Rattle.rc_base.specs.Formats.Within.{IsWithin};
 ghost use Rattle.rc_base.specs.Orders.Footprints.{footprint_of};
-ghost use Rattle.rc_base.specs.Orders.Order.{IsPermitted};
-ghost use Rattle.rc_base.specs.Orders.Sync.{sync_lists_of};
 ghost use Rattle.happens_before.specs.Clocks.{IsExact};
 ghost use Rattle.happens_before.specs.Timelines.{AreOrdered, clock_of};
 ghost use Rattle.race_check.specs.Outlines.{FitWindow, IsApart, PassesOutlines};
-ghost use Rattle.race_check.specs.Races.{NoRaces};
+ghost use Rattle.race_check.specs.Races.{IsOrderOfScene, NoRaces};
 ghost use Rattle.race_check.specs.Uses.{HasIssued, IsNextOf};
 
 use crate::clock::clock_of;
@@ -90,9 +88,7 @@ pub fn are_apart<S: SceneStore>(
     syncs: &SyncLists,
     timelines: &Timelines,
 ) -> Result<bool, OutOfMemory>
-    requires within { IsWithin (S.scene scene.now) }
-    requires lists { syncs.now ≡ sync_lists_of (S.scene scene.now) }
-    requires permitted { IsPermitted syncs.now journal.now order.now }
+    requires order { IsOrderOfScene (S.scene scene.now) syncs.now journal.now order.now }
     requires timelines { AreOrdered timelines.now.clients.items }
     requires exact { IsExact syncs.now journal.now (clock_of timelines.now.clients.items) }
     ensures { IfOk result (λ apart. apart ≡ true

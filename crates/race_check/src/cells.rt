@@ -1,8 +1,8 @@
 //! For each cell and client the last place that used the cell.
-ghost use Rattle.std.specs.Prelude.{◌≡◌, ◌+◌, ◌<◌, ◌≤◌, ◌^◌, length, slice_index, IfOk};
+ghost use Rattle.std.specs.Prelude.{◌≡◌, ℕ, ◌+◌, ◌<◌, ◌≤◌, ◌^◌, length, slice_index, IfOk};
 ghost use Rattle.happens_before.specs.Timelines.{IsJoined};
-ghost use Rattle.race_check.specs.Finds.{Tells, cell_of, AreUnused, IsFoundIn, mark};
-ghost use Rattle.race_check.specs.Outlines.{AreMarked, IsGreatest};
+ghost use Rattle.race_check.specs.Finds.{Tells, cell_at, cell_of, AreUnused, IsFoundIn, mark};
+ghost use Rattle.race_check.specs.Outlines.{AreMarked, IsAmong};
 
 use crate::found::{Found, look};
 use crate::range::Range;
@@ -76,7 +76,8 @@ impl Cells {
     /// Of each client the greatest number in the cells of a range.
     pub fn greatest(&self, range: Range) -> [u32; 8]
         requires { range.to ≤ length self.now.cells.items }
-        ensures { IsGreatest self.now.cells.items range result }
+        ensures { (d : ℕ) → d < 8 → (i : ℕ) → IsAmong range i
+            → slice_index (cell_at self.now.cells.items i) d ≤ slice_index result d }
     {
         let mut most = [0; 8];
         for index in range.from..range.to {

@@ -5,7 +5,7 @@ ghost use Rattle.rc_base.specs.Orders.Footprints.{IsOrderedScene};
 ghost use Rattle.rc_base.specs.Orders.Journal.{IsMaximal};
 ghost use Rattle.rc_base.specs.Orders.Order.{IsPermitted};
 ghost use Rattle.rc_base.specs.Orders.Sync.{sync_lists_of};
-ghost use Rattle.race_check.specs.Races.{IsVerdictOn, NoRaces, SaysOrdered};
+ghost use Rattle.race_check.specs.Races.{IsOrderOfScene, IsVerdictOn, NoRaces, SaysOrdered};
 ghost use Rattle.race_check.specs.declared.verdict.Verdict.TheVariants as verdict;
 
 use crate::apart::are_apart;
@@ -26,10 +26,8 @@ fn verdict_on<S: SceneStore>(
     order: &Order,
     syncs: &SyncLists,
 ) -> Result<Verdict, OutOfMemory>
-    requires within { IsWithin (S.scene scene.now) }
-    requires lists { syncs.now ≡ sync_lists_of (S.scene scene.now) }
+    requires order { IsOrderOfScene (S.scene scene.now) syncs.now journal.now order.now }
     requires maximal { IsMaximal syncs.now journal.now }
-    requires permitted { IsPermitted syncs.now journal.now order.now }
     ensures { IfOk result (IsVerdictOn (S.scene scene.now) syncs.now journal.now order.now) }
 {
     if scene.client_count() < 2 {

@@ -1,6 +1,6 @@
 //! What conflicts with a name unordered, and which of it is told.
-ghost use Rattle.std.specs.Prelude.{◌≡◌, ◌<◌, true};
-ghost use Rattle.race_check.specs.Finds.{AreEitherCounted, AreCounted, IsFirst, IsFoundIn, OrBefore, is_no_later, leads};
+ghost use Rattle.std.specs.Prelude.{◌≡◌, ℕ, ◌<◌, ◌≤◌, ◌⊎◌, slice_index, true};
+ghost use Rattle.race_check.specs.Finds.{AreCounted, IsFirst, IsFoundIn, OrBefore, is_no_later, leads};
 
 use crate::verdict::Spot;
 
@@ -55,7 +55,8 @@ pub fn is_counted(clock: &[u32; 8], cell: &[u32; 8]) -> bool
 
 /// Whether of each client the clock counts all uses of one of two cells.
 pub fn is_either_counted(clock: &[u32; 8], one: &[u32; 8], other: &[u32; 8]) -> bool
-    ensures { result ≡ true → AreEitherCounted clock.now one.now other.now }
+    ensures { result ≡ true → (d : ℕ) → d < 8 → (slice_index one.now d ≤ slice_index clock.now d)
+        ⊎ (slice_index other.now d ≤ slice_index clock.now d) }
 {
     let mut counted = true;
     for client in 0..8usize {

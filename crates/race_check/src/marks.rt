@@ -1,7 +1,7 @@
 //! The tables of a walk along an order: who touched each pixel last, and who wrote and who sampled each shared texture.
 ghost use Rattle.std.specs.Prelude.{◌≡◌, ◌*◌, ◌⊎◌, length, IfOk};
 ghost use Rattle.race_check.specs.Finds.{IsFoundOf, IsMarked, Tells, AreUnused, IsFirst, IsRunIn, run_has};
-ghost use Rattle.race_check.specs.Touches.{AreTouchedIn, IsVisitOf, TellsWhere, Touches};
+ghost use Rattle.race_check.specs.Touches.{AreTouched, IsFoundWhere, IsVisitOf, Touches};
 ghost use Rattle.race_check.specs.Uses.{UsesTextures};
 ghost use Rattle.race_check.specs.declared.verdict.Spot.TheVariants.{Shared};
 
@@ -20,8 +20,9 @@ fn touch_pixels(pixels: &mut Cells, visit: &Visit, run: Run, best: Option<Found>
     requires visit { IsVisitOf visit.now pixels.old }
     requires run { IsRunIn visit.now.width visit.now.height run }
     ensures size { length pixels.new.cells.items ≡ length pixels.old.cells.items }
-    ensures cells { AreTouchedIn (run_has run) visit.now pixels.old pixels.new }
-    ensures best { TellsWhere (run_has run) visit.now pixels.old best result }
+    ensures cells { AreTouched (run_has run) visit.now
+        pixels.old.cells.items pixels.new.cells.items }
+    ensures best { Tells best (IsFoundWhere (run_has run) visit.now pixels.old.cells.items) result }
 {
     let mut best = best;
     let start = row_start(visit.width, run.row);

@@ -5,7 +5,7 @@ ghost use Rattle.geometry.specs.Beside.{AreSurrounds};
 ghost use Rattle.geometry.specs.Items.{AreBelow};
 ghost use Rattle.geometry.specs.Listed.{listed};
 ghost use Rattle.geometry.specs.Pieces.{found};
-ghost use Rattle.race_check.specs.Touches.{IsVisitOf, IsWithinWindow, Touches, block_has, clear_has, part_has, triangle_has, triangles_have};
+ghost use Rattle.race_check.specs.Touches.{IsPartVisited, IsVisitOf, Touches, block_has, clear_has, part_has, triangle_has, triangles_have};
 
 use crate::cells::Cells;
 use crate::marks::touch_run;
@@ -43,8 +43,7 @@ fn touch_triangle(
     part: Rect,
     seen: Seen,
 ) -> Seen
-    requires visit { IsVisitOf visit.now pixels.old }
-    requires part { IsWithinWindow visit.now.width visit.now.height part }
+    requires { IsPartVisited visit.now pixels.old part }
     ensures { Touches (triangle_has tri.now.v part) visit.now pixels.old pixels.new seen result }
 {
     let _width = visit.width;
@@ -64,8 +63,7 @@ fn touch_found(
     part: Rect,
     seen: Seen,
 ) -> Seen
-    requires visit { IsVisitOf visit.now pixels.old }
-    requires part { IsWithinWindow visit.now.width visit.now.height part }
+    requires { IsPartVisited visit.now pixels.old part }
     ensures { Touches (triangles_have (found tri.now) part) visit.now pixels.old pixels.new seen
         result }
 {
@@ -86,8 +84,7 @@ fn touch_corners(
     corners: [usize; 3],
     seen: Seen,
 ) -> Seen
-    requires visit { IsVisitOf visit.now pixels.old }
-    requires part { IsWithinWindow visit.now.width visit.now.height part }
+    requires part { IsPartVisited visit.now pixels.old part }
     requires near { AreSurrounds part near.now }
     requires vertices { listed cache.old.vertices ≡ block.now.vertices }
     requires corners { AreBelow (length block.now.vertices) corners }
@@ -140,8 +137,7 @@ fn row_of(y: i32) -> u16
 
 // A name touches all pixels of a part of the window.
 fn touch_part(pixels: &mut Cells, visit: &Visit, part: Rect, seen: Seen) -> Seen
-    requires visit { IsVisitOf visit.now pixels.old }
-    requires part { IsWithinWindow visit.now.width visit.now.height part }
+    requires { IsPartVisited visit.now pixels.old part }
     ensures { Touches (part_has part) visit.now pixels.old pixels.new seen result }
 {
     let _visit = *visit;

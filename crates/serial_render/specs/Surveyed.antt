@@ -1,7 +1,7 @@
 -- What is known of a client, and of a scene, when each command has been issued once.
 use Rattle.std.specs.Prelude.{◌≡◌, ℕ, List, [], ◌∷◌, length, map, slice_index_or}
 use Rattle.std.specs.List.{range_with_len}
-use Rattle.rc_base.specs.Contexts.Issue.{stream_of, context_after, faults_of}
+use Rattle.rc_base.specs.Contexts.Issue.{context_after, faults_of}
 use Rattle.rc_base.specs.Orders.Sync.{sync_row_of, waits_below}
 use Rattle.rc_base.specs.declared.scene.Scene.{Scene}
 use Rattle.rc_base.specs.declared.state.Fault.{Fault}
@@ -15,10 +15,6 @@ use Rattle.serial_render.specs.declared.client_survey.ClientSurvey.{ClientSurvey
 -- what a client's first n commands tell
 abbrev pub survey_after : Scene → ℕ → ℕ → ClientSurvey
 survey_after scene client n = record { context = counted (context_after scene client n); ops = waits_below scene client n }
-
--- what all of a client's commands tell
-abbrev pub survey_of : Scene → ℕ → ClientSurvey
-survey_of scene client = survey_after scene client (length (stream_of scene client))
 
 -- the operation of synchronisation that a command of this kind is, at its place
 abbrev pub waits_at : ℕ → EffectKind → List WaitAt

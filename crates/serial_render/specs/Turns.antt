@@ -50,6 +50,17 @@ pub record IsOrderUnderWay (syncs : SyncLists) (p : Progress) : Type 0 where
   pub stops : (client : ℕ) → client < client_count syncs → is_wanted p.book client ≡ false
       → slice_index p.issued client ≡ stop syncs (sync_state_after syncs (journal_in p.book)) client
 
+-- so it can go on: there are at most 8 clients, whose operations name what is declared
+pub record CanAdvance (syncs : SyncLists) (p : Progress) : Type 0 where
+  pub way : IsOrderUnderWay syncs p
+  pub clients : client_count syncs ≤ 8
+  pub declared : AreDeclared syncs
+
+-- it went on without a grant
+pub record StaysUnderWay (syncs : SyncLists) (before after : Progress) : Type 0 where
+  pub way : IsOrderUnderWay syncs after
+  pub journal : journal_in after.book ≡ journal_in before.book
+
 -- the journal is the front of the default one
 pub record IsFrontOfDefault (syncs : SyncLists) (journal : List Entry) : Type 0 where
   pub left : ℕ

@@ -4,7 +4,7 @@ ghost use Rattle.rc_base.specs.Formats.Within.{IsWithin};
 ghost use Rattle.rc_base.specs.Contexts.Issue.{stream_of, effect_at, faults_of};
 ghost use Rattle.rc_base.specs.Orders.Sync.{sync_row_of};
 ghost use Rattle.gl_context.specs.Counted.{kind_of};
-ghost use Rattle.serial_render.specs.Surveyed.{survey_after, survey_of, waits_at};
+ghost use Rattle.serial_render.specs.Surveyed.{survey_after, waits_at};
 
 use gl_context::{CountingContext, EffectKind};
 use rc_base::cluster::FaultList;
@@ -72,7 +72,8 @@ impl ClientSurvey {
     pub fn finish<S: SceneStore>(self, scene: &S, client: usize) -> (SyncRow, FaultList)
         requires within { IsWithin (S.scene scene.now) }
         requires client { client < length (S.scene scene.now).streams }
-        requires whole { self ≡ survey_of (S.scene scene.now) client }
+        requires whole { self ≡ survey_after (S.scene scene.now) client
+            (length (stream_of (S.scene scene.now) client)) }
         ensures row { result.0 ≡ sync_row_of (S.scene scene.now) client }
         ensures faults { result.1 ≡ faults_of (S.scene scene.now) client }
     {

@@ -1,19 +1,18 @@
 //! Carrying out the commands of an order on one device.
-ghost use Rattle.std.specs.Prelude.{◌≡◌, ◌+◌, ◌<◌, ◌≤◌, List, [], length, take, max, Some, IfOk, OnOk};
+ghost use Rattle.std.specs.Prelude.{◌≡◌, ◌+◌, ◌<◌, List, [], length, take, max, Some, IfOk, OnOk};
 ghost use Rattle.rc_base.specs.declared.sync.Name.{Name};
 ghost use Rattle.rc_base.specs.Formats.Within.{IsWithin};
 ghost use Rattle.rc_base.specs.Cluster.Tiles.{window_rect};
-ghost use Rattle.rc_base.specs.Contexts.Issue.{stream_of};
 ghost use Rattle.rc_base.specs.declared.command.Part.{Part};
 ghost use Rattle.rc_base.specs.declared.state.Effect.TheVariants as eff;
 ghost use Rattle.draw_device.specs.Conditions.{IsClearable, IsDrawable, TakesBlock};
 ghost use Rattle.draw_device.specs.Devices.{IsDeviceRect};
 ghost use Rattle.draw_device.specs.Prepared.{IsPreparedFor};
 ghost use Rattle.draw_device.specs.Stored.{IsStorable, set_after};
-ghost use Rattle.stream_replay.specs.Clients.{StandsBefore, issued_by};
+ghost use Rattle.stream_replay.specs.Clients.{IsNextName, issued_by};
 ghost use Rattle.serial_render.specs.Performed.{IsSettled, TakesEffect, effect_by, images_behind, state_behind};
-ghost use Rattle.serial_render.specs.Played.{GoesOn, HasGathered, HasPlayed, names_below};
-ghost use Rattle.serial_render.specs.Runs.{names_of_runs, run_at};
+ghost use Rattle.serial_render.specs.Played.{GoesOn, HasGathered, HasPlayed, StandsInRun};
+ghost use Rattle.serial_render.specs.Runs.{names_of_runs};
 ghost use Rattle.serial_render.specs.Shown.{IsPlayable, AreShownOn};
 
 use crate::brush::Brush;
@@ -102,9 +101,7 @@ fn perform<S: SceneStore>(
     device: &mut Device,
     shared: &mut SharedSet,
 ) -> Result<(), OutOfMemory>
-    requires within { IsWithin (S.scene scene.now) }
-    requires inside { name.place < length (stream_of (S.scene scene.now) name.client) }
-    requires before { StandsBefore (S.scene scene.now) clients.old.items name }
+    requires name { IsNextName (S.scene scene.now) clients.old.items name }
     requires drawable { IsDrawable
         (state_behind (S.scene scene.now) name) (images_behind (S.scene scene.now) name)
         shared.old }
@@ -170,13 +167,7 @@ fn play_gathered<S: SceneStore>(
     place: usize,
     stage: &mut Stage,
 ) -> Result<usize, OutOfMemory>
-    requires within { IsWithin (S.scene scene.now) }
-    requires playable { IsPlayable (S.scene scene.now) (names_of_runs runs.now) }
-    requires index { index < length runs.now }
-    requires low { (run_at runs.now index).first ≤ place }
-    requires high { place ≤ (run_at runs.now index).last }
-    requires played { HasPlayed (S.scene scene.now) (names_of_runs runs.now)
-        (names_below runs.now index place) stage.old }
+    requires { StandsInRun (S.scene scene.now) runs.now index place stage.old }
     ensures { IfOk result (HasGathered (S.scene scene.now) runs.now index place stage.new) }
 {
     let run = runs[index];
@@ -202,13 +193,7 @@ fn play_part<S: SceneStore>(
     place: usize,
     stage: &mut Stage,
 ) -> Result<usize, OutOfMemory>
-    requires within { IsWithin (S.scene scene.now) }
-    requires playable { IsPlayable (S.scene scene.now) (names_of_runs runs.now) }
-    requires index { index < length runs.now }
-    requires low { (run_at runs.now index).first ≤ place }
-    requires high { place ≤ (run_at runs.now index).last }
-    requires played { HasPlayed (S.scene scene.now) (names_of_runs runs.now)
-        (names_below runs.now index place) stage.old }
+    requires { StandsInRun (S.scene scene.now) runs.now index place stage.old }
     ensures { IfOk result (GoesOn (S.scene scene.now) runs.now index place stage.new) }
 {
     let next = play_gathered(alloc, scene, runs, index, place, stage)?;

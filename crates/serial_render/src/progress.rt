@@ -1,11 +1,14 @@
 //! How far clients are that take turns.
-ghost use Rattle.std.specs.Prelude.{◌≡◌, ◌+◌, ◌-◌, ◌<◌, ◌≤◌, ◌^◌, [], true, false, length, is_some, Some, slice_get, IfOk, OnOk};
+ghost use Rattle.std.specs.Prelude.{◌≡◌, ℕ, ◌+◌, ◌-◌, ◌<◌, ◌≤◌, ◌^◌, [], true, false, length, is_some, Some, slice_get, slice_index, IfOk, OnOk};
 ghost use Rattle.std.specs.Option.{option_map_or};
-ghost use Rattle.rc_base.specs.Orders.Sync.{IsWellFormed, client_count, client_row};
+ghost use Rattle.rc_base.specs.Orders.Grant.{grant};
+ghost use Rattle.rc_base.specs.Orders.Journal.{sync_state_after};
+ghost use Rattle.rc_base.specs.Orders.Order.{added, all_added};
+ghost use Rattle.rc_base.specs.Orders.Sync.{IsWellFormed, client_count, client_row, length_of};
 ghost use Rattle.sync_manager.specs.Books.{clients_in, is_wanted, journal_in, names_declared};
-ghost use Rattle.serial_render.specs.Turns.{IsOrderUnderWay, IsBetweenTurns};
+ghost use Rattle.serial_render.specs.Turns.{CanAdvance, IsOrderUnderWay, IsBetweenTurns, StaysUnderWay, left_after};
 ghost use Rattle.order_model.specs.Gathering.{AreDeclared};
-ghost use Rattle.serial_render.specs.Advances.{IsTold, order_to_stop, order_to_stops, order_by_one, StayUnwanted, IsNoneWanted, CountsNames, HaveNamesLeft, GoOnByOne, LeavesFewer, IsNoneLawful};
+ghost use Rattle.serial_render.specs.Advances.{CountsNames, GoOnByOne, IsTold, stop_in};
 
 use crate::runs::RunOrder;
 use rc_base::items::Items;
@@ -112,16 +115,15 @@ impl Progress {
 
     /// A client that is wanted issues up to its next operation, or to the end of its stream.
     fn advance_client(&mut self, syncs: &SyncLists, client: u8) -> Result<(), OutOfMemory>
-        requires way { IsOrderUnderWay syncs.now self.old }
-        requires clients { client_count syncs.now ≤ 8 }
-        requires declared { AreDeclared syncs.now }
+        requires way { CanAdvance syncs.now self.old }
         requires client { client < client_count syncs.now }
         requires wanted { is_wanted self.old.book client ≡ true }
-        ensures way { OnOk result (IsOrderUnderWay syncs.now self.new) }
-        ensures journal { OnOk result (journal_in self.new.book ≡ journal_in self.old.book) }
-        ensures order { OnOk result (self.new.order ≡ order_to_stop syncs.now self.old client) }
+        ensures way { OnOk result (StaysUnderWay syncs.now self.old self.new) }
+        ensures order { OnOk result
+            (self.new.order ≡ added client (stop_in syncs.now self.old client) self.old.order) }
         ensures settled { OnOk result (is_wanted self.new.book client ≡ false) }
-        ensures others { OnOk result (StayUnwanted syncs.now self.old self.new) }
+        ensures others { OnOk result ((c : ℕ) → c < client_count syncs.now
+            → is_wanted self.old.book c ≡ false → is_wanted self.new.book c ≡ false) }
     {
         let row = row_of(syncs, client);
         let next = operation(row, self.arrived[client as usize]);
@@ -136,13 +138,12 @@ impl Progress {
 
     /// Each client that is wanted does, clients rising.
     pub(crate) fn advance(&mut self, syncs: &SyncLists) -> Result<(), OutOfMemory>
-        requires way { IsOrderUnderWay syncs.now self.old }
-        requires clients { client_count syncs.now ≤ 8 }
-        requires declared { AreDeclared syncs.now }
-        ensures way { OnOk result (IsOrderUnderWay syncs.now self.new) }
-        ensures journal { OnOk result (journal_in self.new.book ≡ journal_in self.old.book) }
-        ensures order { OnOk result (self.new.order ≡ order_to_stops syncs.now self.old) }
-        ensures settled { OnOk result (IsNoneWanted syncs.now self.new) }
+        requires { CanAdvance syncs.now self.old }
+        ensures way { OnOk result (StaysUnderWay syncs.now self.old self.new) }
+        ensures order { OnOk result (self.new.order ≡ all_added
+            (λ c. true) (stop_in syncs.now self.old) (client_count syncs.now) self.old.order) }
+        ensures settled { OnOk result
+            ((c : ℕ) → c < client_count syncs.now → is_wanted self.new.book c ≡ false) }
     {
         for client in 0..syncs.clients.len() as u8 {
             if self.book.is_wanted(client) {
@@ -158,10 +159,12 @@ impl Progress {
         requires book { client_count syncs.now ≡ clients_in self.old.book }
         requires issued { CountsNames syncs.now self.old }
         requires slots { length self.old.issued ≡ 8 }
-        requires room { HaveNamesLeft syncs.now self.old }
+        requires room { (c : ℕ) → c < client_count syncs.now → is_wanted self.old.book c ≡ true
+            → slice_index self.old.issued c < length_of syncs.now c }
         ensures book { OnOk result (self.new.book ≡ self.old.book) }
         ensures arrived { OnOk result (self.new.arrived ≡ self.old.arrived) }
-        ensures order { OnOk result (self.new.order ≡ order_by_one syncs.now self.old) }
+        ensures order { OnOk result (self.new.order ≡ all_added (is_wanted self.old.book)
+            (λ c. slice_index self.old.issued c + 1) (client_count syncs.now) self.old.order) }
         ensures issued { OnOk result (GoOnByOne syncs.now self.old self.new) }
         ensures slots { OnOk result (length self.new.issued ≡ 8) }
         ensures names { OnOk result (CountsNames syncs.now self.new) }
@@ -184,8 +187,10 @@ impl Progress {
         requires declared { AreDeclared syncs.now }
         requires turns { IsBetweenTurns syncs.now self.old }
         ensures turns { OnOk result (IsBetweenTurns syncs.now self.new) }
-        ensures less { IfOk result (λ more. more ≡ true → LeavesFewer syncs.now self.old self.new) }
-        ensures over { IfOk result (λ more. more ≡ false → IsNoneLawful syncs.now self.new) }
+        ensures less { IfOk result (λ more. more ≡ true → left_after syncs.now
+            (journal_in self.new.book) < left_after syncs.now (journal_in self.old.book)) }
+        ensures over { IfOk result (λ more. more ≡ false → grant syncs.now
+            (sync_state_after syncs.now (journal_in self.new.book)) ≡ None) }
     {
         match self.book.grant() {
             Some(_) => {

@@ -1,10 +1,9 @@
 //! What is kept of a client while an order is carried out.
-ghost use Rattle.std.specs.Prelude.{◌≡◌, ℕ, ◌+◌, ◌<◌, ◌≤◌, length, slice_get, slice_set, Some, IfOk, OnOk, OnErr};
-ghost use Rattle.rc_base.specs.Formats.Within.{IsWithin};
-ghost use Rattle.rc_base.specs.Contexts.Issue.{stream_of, effect_at};
+ghost use Rattle.std.specs.Prelude.{◌≡◌, ℕ, ◌+◌, ◌<◌, length, slice_get, slice_set, Some, IfOk, OnOk, OnErr};
+ghost use Rattle.rc_base.specs.Contexts.Issue.{effect_at};
 ghost use Rattle.rc_base.specs.Drawing.Serial.{is_swap_effect};
 ghost use Rattle.stream_replay.specs.Blocks.{ClientIsBehind, ClientsAreBehind, is_of_block_at, was_issued};
-ghost use Rattle.stream_replay.specs.Clients.{client_after, first_clients, StandsBefore, issued_by};
+ghost use Rattle.stream_replay.specs.Clients.{AreCommandsOf, IsNextName, IsNextOfClient, client_after, first_clients, issued_by};
 ghost use Rattle.stream_replay.specs.Runs.{IsGatheredRun};
 
 use crate::in_block::InBlock;
@@ -50,9 +49,7 @@ impl Client {
         client: usize,
         place: usize,
     ) -> Result<Effect, OutOfMemory>
-        requires within { IsWithin (S.scene scene.now) }
-        requires inside { place < length (stream_of (S.scene scene.now) client) }
-        requires before { self.old ≡ client_after (S.scene scene.now) client place }
+        requires { IsNextOfClient (S.scene scene.now) client place self.old }
         ensures client { OnOk result
             (self.new ≡ client_after (S.scene scene.now) client (place + 1)) }
         ensures effect { IfOk result (λ e. e ≡ effect_at (S.scene scene.now) client place) }
@@ -71,9 +68,7 @@ impl Client {
         client: usize,
         place: usize,
     ) -> Result<InBlock, OutOfMemory>
-        requires within { IsWithin (S.scene scene.now) }
-        requires inside { place < length (stream_of (S.scene scene.now) client) }
-        requires before { self.old ≡ client_after (S.scene scene.now) client place }
+        requires { IsNextOfClient (S.scene scene.now) client place self.old }
         ensures issued { IfOk result
             (ClientIsBehind (S.scene scene.now) client place self.old self.new) }
         ensures exact { IfOk result
@@ -91,9 +86,7 @@ impl Client {
         from: usize,
         to: usize,
     ) -> Result<usize, OutOfMemory>
-        requires within { IsWithin (S.scene scene.now) }
-        requires inside { to ≤ length (stream_of (S.scene scene.now) client) }
-        requires from { from ≤ to }
+        requires commands { AreCommandsOf (S.scene scene.now) client from to }
         requires before { self.old ≡ client_after (S.scene scene.now) client from }
         ensures client { IfOk result
             (λ place. self.new ≡ client_after (S.scene scene.now) client place) }
@@ -128,9 +121,7 @@ pub fn issue_name<S: SceneStore>(
     scene: &S,
     name: Name,
 ) -> Result<Effect, OutOfMemory>
-    requires within { IsWithin (S.scene scene.now) }
-    requires inside { name.place < length (stream_of (S.scene scene.now) name.client) }
-    requires before { StandsBefore (S.scene scene.now) clients.old.items name }
+    requires { IsNextName (S.scene scene.now) clients.old.items name }
     ensures clients { OnOk result
         (clients.new.items ≡ issued_by (S.scene scene.now) clients.old.items name) }
     ensures effect { IfOk result (λ e. e ≡ effect_at (S.scene scene.now) name.client name.place) }
@@ -147,9 +138,7 @@ pub fn issue_in_block<S: SceneStore>(
     scene: &S,
     name: Name,
 ) -> Result<InBlock, OutOfMemory>
-    requires within { IsWithin (S.scene scene.now) }
-    requires inside { name.place < length (stream_of (S.scene scene.now) name.client) }
-    requires before { StandsBefore (S.scene scene.now) clients.old.items name }
+    requires { IsNextName (S.scene scene.now) clients.old.items name }
     ensures issued { IfOk result
         (ClientsAreBehind (S.scene scene.now) name clients.old.items clients.new.items) }
     ensures exact { IfOk result
@@ -172,9 +161,7 @@ pub fn gather<S: SceneStore>(
     from: usize,
     to: usize,
 ) -> Result<usize, OutOfMemory>
-    requires within { IsWithin (S.scene scene.now) }
-    requires inside { to ≤ length (stream_of (S.scene scene.now) client) }
-    requires from { from ≤ to }
+    requires commands { AreCommandsOf (S.scene scene.now) client from to }
     requires before { slice_get clients.old.items client
         ≡ Some (client_after (S.scene scene.now) client from) }
     ensures clients { IfOk result (λ place. clients.new.items

@@ -7,6 +7,7 @@ ghost use Rattle.gl_context.specs.Counted.{kind_of};
 ghost use Rattle.gl_context.specs.declared.counting.EffectKind.TheVariants as kind;
 ghost use Rattle.rc_base.specs.declared.command.Command.TheVariants as cmd;
 ghost use Rattle.stream_replay.specs.Blocks.{IsIssuedInBlock, is_of_block_at, was_issued};
+ghost use Rattle.stream_replay.specs.Clients.{AreCommandsOf, IsNextCommand};
 ghost use Rattle.stream_replay.specs.Counts.{counted_after, is_counted};
 ghost use Rattle.stream_replay.specs.Runs.{IsBehindRun, is_gathered_at};
 
@@ -89,9 +90,7 @@ pub(crate) fn issue_in_block_at<S: SceneStore>(
     client: usize,
     place: usize,
 ) -> Result<InBlock, OutOfMemory>
-    requires within { IsWithin (S.scene scene.now) }
-    requires inside { place < length (stream_of (S.scene scene.now) client) }
-    requires before { context.old ≡ context_after (S.scene scene.now) client place }
+    requires { IsNextCommand (S.scene scene.now) client place context.old }
     ensures issued { IfOk result (IsIssuedInBlock (S.scene scene.now) client place context.new) }
     ensures exact { IfOk result
         (λ r. was_issued r ≡ is_of_block_at (S.scene scene.now) client place) }
@@ -124,9 +123,7 @@ fn gather_one<S: SceneStore>(
     client: usize,
     place: usize,
 ) -> Result<bool, OutOfMemory>
-    requires within { IsWithin (S.scene scene.now) }
-    requires inside { place < length (stream_of (S.scene scene.now) client) }
-    requires before { context.old ≡ context_after (S.scene scene.now) client place }
+    requires { IsNextCommand (S.scene scene.now) client place context.old }
     ensures issued { IfOk result
         (λ r. IsTrue r → context.new ≡ context_after (S.scene scene.now) client (place + 1)) }
     ensures left { IfOk result (λ r. IsFalse r → context.new ≡ context.old) }
@@ -161,9 +158,7 @@ pub(crate) fn gather_at<S: SceneStore>(
     from: usize,
     to: usize,
 ) -> Result<usize, OutOfMemory>
-    requires within { IsWithin (S.scene scene.now) }
-    requires inside { to ≤ length (stream_of (S.scene scene.now) client) }
-    requires from { from ≤ to }
+    requires commands { AreCommandsOf (S.scene scene.now) client from to }
     requires before { context.old ≡ context_after (S.scene scene.now) client from }
     ensures { IfOk result (IsBehindRun (S.scene scene.now) client from to context.new) }
 {

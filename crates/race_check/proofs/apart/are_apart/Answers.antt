@@ -24,8 +24,8 @@ loop-name-init g c =
 
 pub outline_name-requires-clause-next : goal.outline_name-requires-clause-next
 outline_name-requires-clause-next g c =
-    (next_name (g.S.SceneStore.scene c.args.scene.now) c.args.syncs.now c.args.journal.now c.args.order.now c.as_slice-name-items.result.now c.loop-name.clients.items c.loop-name.name-index c.requires.within c.requires.lists
-    c.requires.permitted c.as_slice-name-items.ensures c.loop-name-test.true c.loop-name.invariant.clients).next
+    (next_name (g.S.SceneStore.scene c.args.scene.now) c.args.syncs.now c.args.journal.now c.args.order.now c.as_slice-name-items.result.now c.loop-name.clients.items c.loop-name.name-index c.requires.order.within c.requires.order.lists
+    c.requires.order.permitted c.as_slice-name-items.ensures c.loop-name-test.true c.loop-name.invariant.clients).next
 
 pub outline_name-requires-clause-fits : goal.outline_name-requires-clause-fits
 outline_name-requires-clause-fits g c = c.loop-name.invariant.fits
@@ -35,13 +35,13 @@ loop-name-preserved g c =
     let s = g.S.SceneStore.scene c.args.scene.now in
     let r = c.requires in
     let e = c.in_ok-outline_name.ensures in
-    let next = next_name s c.args.syncs.now c.args.journal.now c.args.order.now c.as_slice-name-items.result.now c.loop-name.clients.items c.loop-name.name-index r.within r.lists r.permitted
+    let next = next_name s c.args.syncs.now c.args.journal.now c.args.order.now c.as_slice-name-items.result.now c.loop-name.clients.items c.loop-name.name-index r.order.within r.order.lists r.order.permitted
     c.as_slice-name-items.ensures c.loop-name-test.true c.loop-name.invariant.clients in
     record {
       clients = next.issued c.outline_name.new.clients.items e.clients;
       fits = e.fits;
       passed = passed_more (AreOutlined (footprint_of s) s.decl.width s.decl.height) c.args.syncs.now c.args.journal.now (footprint_of s) c.args.timelines.now.clients.items c.args.order.now c.loop-name.name-index _
-          c.loop-name.outlines c.outline_name.new.outlines _ r.permitted r.exact next.at c.loop-name.invariant.passed (e.apart c.if-not-branch.false) refl;
+          c.loop-name.outlines c.outline_name.new.outlines _ r.order.permitted r.exact next.at c.loop-name.invariant.passed (e.apart c.if-not-branch.false) refl;
     }
 
 pub returns : goal.returns
@@ -49,4 +49,4 @@ returns g c e =
     let s = g.S.SceneStore.scene c.args.scene.now in
     let past : length c.args.order.now ≤ c.loop-name.name-index = omega (arith, ap length c.as_slice-name-items.ensures, c.loop-name-test.false) in
     all_passed (AreOutlined (footprint_of s) s.decl.width s.decl.height) c.args.syncs.now c.args.journal.now (footprint_of s) c.args.timelines.now.clients.items c.args.order.now c.loop-name.name-index c.loop-name.outlines
-    past c.requires.permitted c.requires.exact c.loop-name.invariant.passed
+    past c.requires.order.permitted c.requires.exact c.loop-name.invariant.passed

@@ -13,3 +13,6 @@ returns-clause-exactly g c =
 pub returns-clause-exactly_ordered : goal.returns-clause-exactly_ordered
 returns-clause-exactly_ordered g c =
     scene_exact (g.S.SceneStore.scene c.args.scene.now) c.args.syncs.now c.args.journal.now c.args.order.now c.in_ok-verdict.verdict c.requires.lists c.requires.permitted (returns-clause-exactly g c)
+
+pub verdict_on-requires-clause-order : goal.verdict_on-requires-clause-order
+verdict_on-requires-clause-order g c = record { within = c.requires.within; lists = c.requires.lists; permitted = c.requires.permitted }

@@ -43,14 +43,14 @@ cuts-init c =
     }
 
 pub touch_corners-seen-requires-clause-part : goal.touch_corners-seen-requires-clause-part
-touch_corners-seen-requires-clause-part c = part_of_window (is_let_through c.args.state.now) c.args.visit.now.width c.args.visit.now.height c.drawn_part-part.result c.cuts.invariant.part
+touch_corners-seen-requires-clause-part c = record {
+  visit = record { client = c.requires.client; place = c.requires.place; size = c.cuts.invariant.size ∙ c.requires.size };
+  part = part_of_window (is_let_through c.args.state.now) c.args.visit.now.width c.args.visit.now.height c.drawn_part-part.result c.cuts.invariant.part;
+}
 
 pub touch_corners-seen-requires-clause-corners : goal.touch_corners-seen-requires-clause-corners
 touch_corners-seen-requires-clause-corners c =
     first_of_all (AreBelow (length c.args.block.now.vertices)) c.in-Some.corners _ _ c.in-Some.ensures.steps c.cuts.invariant.below
-
-pub touch_corners-seen-requires-clause-visit : goal.touch_corners-seen-requires-clause-visit
-touch_corners-seen-requires-clause-visit c = record { client = c.requires.client; place = c.requires.place; size = c.cuts.invariant.size ∙ c.requires.size }
 
 pub cuts-preserved : goal.cuts-preserved
 cuts-preserved c =

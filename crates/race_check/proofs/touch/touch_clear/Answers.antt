@@ -7,11 +7,12 @@ use Rattle.race_check.proofs.TouchesInTurn.{touch_as}
 use Rattle.race_check.proofs.TrianglesBeside.{clear_part, part_of_window}
 use Rattle.race_check.proofs.touch.touch_clear.Goals as goal
 
-pub touch_part-requires-clause-part : goal.touch_part-requires-clause-part
-touch_part-requires-clause-part c =
+pub touch_part-requires : goal.touch_part-requires
+touch_part-requires c =
     let s = c.args.state.now in
     let v = c.args.visit.now in
-    part_of_window (is_in_scissor s) v.width v.height c.scissored.result (subst (λ (r : Rect). IsPartWhere r c.scissored.result (is_in_scissor s)) c.window_rect.ensures c.scissored.ensures)
+    let part = part_of_window (is_in_scissor s) v.width v.height c.scissored.result (subst (λ (r : Rect). IsPartWhere r c.scissored.result (is_in_scissor s)) c.window_rect.ensures c.scissored.ensures) in
+    record { visit = c.requires; part = part }
 
 pub returns : goal.returns
 returns c = record {

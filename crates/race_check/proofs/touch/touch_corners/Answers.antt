@@ -83,3 +83,11 @@ returns-in-Whole-clause-touches c = record {
       c.touch_found.new.pixels.cells.items c.args.seen c.touch_found.result c.touch_found.ensures.touched
       (λ x y lx ly. whole_has c.cover_lies_in_bounds.ensures s block t c.args.part c.args.near.now c.in-Whole.tri c.requires.near front whole x y);
 }
+
+pub touch_found-requires-in-No : goal.touch_found-requires-in-No
+touch_found-requires-in-No c =
+    let v = c.requires.part.visit in
+    record {
+      visit = record { client = v.client; place = v.place; size = c.touch_found-first.ensures.size ∙ v.size };
+      part = c.requires.part.part;
+    }

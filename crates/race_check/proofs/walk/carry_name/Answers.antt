@@ -16,3 +16,6 @@ returns-clause-carried g c =
     subst (λ (d : Decl). HasEffect f c.args.name d.width d.height c.state-state.result.now c.in_ok-effect.effect → PassesMarks f d.width d.height (clock_of c.args.timelines.now.clients.items c.args.name) c.args.name c.args.marks.now c.carry_out-found.new.marks c.carry_out-found.result) c.decl.ensures (c.carry_out-found.ensures.carried f)
     (issued_effect (g.S.SceneStore.scene c.args.scene.now) c.args.name c.args.clients.now.items c.issue_name.new.clients.items c.index.result.now c.from-client.result c.state-state.result.now c.in_ok-effect.effect c.requires.next
     c.in_ok-effect.ensures.clients c.from-client.ensures c.index.ensures c.state-state.ensures c.in_ok-effect.ensures.effect)
+
+pub issue_name-requires : goal.issue_name-requires
+issue_name-requires g c = record { within = c.requires.within; inside = c.requires.next.inside; before = c.requires.next.before }

@@ -23,8 +23,8 @@ loop-name-init g c =
 
 pub carry_name-requires-clause-next : goal.carry_name-requires-clause-next
 carry_name-requires-clause-next g c =
-    (next_name (g.S.SceneStore.scene c.args.scene.now) c.args.syncs.now c.args.journal.now c.args.order.now c.as_slice-name-items.result.now c.loop-name.clients.items c.loop-name.name-index c.requires.within c.requires.lists
-    c.requires.permitted c.as_slice-name-items.ensures c.loop-name-test.true c.loop-name.invariant.clients).next
+    (next_name (g.S.SceneStore.scene c.args.scene.now) c.args.syncs.now c.args.journal.now c.args.order.now c.as_slice-name-items.result.now c.loop-name.clients.items c.loop-name.name-index c.requires.order.within c.requires.order.lists
+    c.requires.order.permitted c.as_slice-name-items.ensures c.loop-name-test.true c.loop-name.invariant.clients).next
 
 pub carry_name-requires-clause-sized : goal.carry_name-requires-clause-sized
 carry_name-requires-clause-sized g c = c.loop-name.invariant.sized
@@ -34,27 +34,27 @@ loop-name-preserved g c =
     let s = g.S.SceneStore.scene c.args.scene.now in
     let r = c.requires in
     let e = c.in_ok-found.ensures in
-    let next = next_name s c.args.syncs.now c.args.journal.now c.args.order.now c.as_slice-name-items.result.now c.loop-name.clients.items c.loop-name.name-index r.within r.lists r.permitted
+    let next = next_name s c.args.syncs.now c.args.journal.now c.args.order.now c.as_slice-name-items.result.now c.loop-name.clients.items c.loop-name.name-index r.order.within r.order.lists r.order.permitted
     c.as_slice-name-items.ensures c.loop-name-test.true c.loop-name.invariant.clients in
     record {
       clients = next.issued c.carry_name.new.clients.items e.clients;
       sized = e.sized;
       passed = passed_more (AreTables (footprint_of s) s.decl.width s.decl.height) c.args.syncs.now c.args.journal.now (footprint_of s) c.args.timelines.now.clients.items c.args.order.now
-          c.loop-name.name-index _ c.loop-name.marks c.carry_name.new.marks c.in_ok-found.field-0 r.permitted r.exact next.at c.loop-name.invariant.passed e.carried c.in_default.is;
+          c.loop-name.name-index _ c.loop-name.marks c.carry_name.new.marks c.in_ok-found.field-0 r.order.permitted r.exact next.at c.loop-name.invariant.passed e.carried c.in_default.is;
     }
 
 pub returns-in-Some : goal.returns-in-Some
 returns-in-Some g c =
     let s = g.S.SceneStore.scene c.args.scene.now in
     let r = c.requires in
-    let next = next_name s c.args.syncs.now c.args.journal.now c.args.order.now c.as_slice-name-items.result.now c.loop-name.clients.items c.loop-name.name-index r.within r.lists r.permitted
+    let next = next_name s c.args.syncs.now c.args.journal.now c.args.order.now c.as_slice-name-items.result.now c.loop-name.clients.items c.loop-name.name-index r.order.within r.order.lists r.order.permitted
     c.as_slice-name-items.ensures c.loop-name-test.true c.loop-name.invariant.clients in
     race_here (AreTables (footprint_of s) s.decl.width s.decl.height) c.args.syncs.now c.args.journal.now (footprint_of s) c.args.timelines.now.clients.items c.args.order.now c.loop-name.name-index _
-    c.loop-name.marks c.carry_name.new.marks c.in_ok-found.field-0 r.permitted r.exact next.at c.loop-name.invariant.passed c.in_ok-found.ensures.carried c.in-Some.found c.in-Some.is
+    c.loop-name.marks c.carry_name.new.marks c.in_ok-found.field-0 r.order.permitted r.exact next.at c.loop-name.invariant.passed c.in_ok-found.ensures.carried c.in-Some.found c.in-Some.is
 
 pub returns : goal.returns
 returns g c =
     let s = g.S.SceneStore.scene c.args.scene.now in
     let past : length c.args.order.now ≤ c.loop-name.name-index = omega (arith, ap length c.as_slice-name-items.ensures, c.loop-name-test.false) in
     all_passed (AreTables (footprint_of s) s.decl.width s.decl.height) c.args.syncs.now c.args.journal.now (footprint_of s) c.args.timelines.now.clients.items c.args.order.now c.loop-name.name-index
-    c.loop-name.marks past c.requires.permitted c.requires.exact c.loop-name.invariant.passed
+    c.loop-name.marks past c.requires.order.permitted c.requires.exact c.loop-name.invariant.passed

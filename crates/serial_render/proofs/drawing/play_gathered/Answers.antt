@@ -26,10 +26,15 @@ pub show_up_to-requires : goal.show_up_to-requires
 show_up_to-requires g c =
     c.requires.played.shown.rect ∙ ap (λ (d : Decl). window_rect d.width d.height) (sym c.decl.ensures)
 
-pub gather-requires-clause-inside : goal.gather-requires-clause-inside
-gather-requires-clause-inside g c =
+pub gather-requires-clause-commands : goal.gather-requires-clause-commands
+gather-requires-clause-commands g c =
     let s = g.S.SceneStore.scene c.args.scene.now in
-    run_inside s c.args.runs.now c.args.index c.args.place c.requires.within c.requires.playable c.requires.index c.requires.low c.requires.high
+    let high = c.requires.high in
+    record {
+      within = c.requires.within;
+      order = omega arith;
+      inside = run_inside s c.args.runs.now c.args.index c.args.place c.requires.within c.requires.playable c.requires.index c.requires.low c.requires.high;
+    }
 
 pub gather-requires-clause-before : goal.gather-requires-clause-before
 gather-requires-clause-before g c =

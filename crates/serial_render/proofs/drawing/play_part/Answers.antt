@@ -5,8 +5,8 @@ use Rattle.serial_render.proofs.ClearDepths.{clearable}
 use Rattle.serial_render.proofs.PlayedNames.{can_draw, can_write, name_at, performed_there, rest_of, run_inside, split_at, stands_before}
 use Rattle.serial_render.proofs.drawing.play_part.Goals as goal
 
-pub perform-requires-clause-inside : goal.perform-requires-clause-inside
-perform-requires-clause-inside g c =
+pub perform-requires-clause-name : goal.perform-requires-clause-name
+perform-requires-clause-name g c =
     let s = g.S.SceneStore.scene c.args.scene.now in
     let runs = c.args.runs.now in
     let i = c.args.index in
@@ -17,21 +17,11 @@ perform-requires-clause-inside g c =
     let low : (run_at runs i).first ≤ next = omega (arith, c.requires.low, c.in_ok-next.ensures.more) in
     let high : next ≤ (run_at runs i).last = c.if-next-run.false in
     let split = split_at runs i next c.requires.index low high in
-    omega (arith, run_inside s runs i next c.requires.within c.requires.playable c.requires.index low high, high)
-
-pub perform-requires-clause-before : goal.perform-requires-clause-before
-perform-requires-clause-before g c =
-    let s = g.S.SceneStore.scene c.args.scene.now in
-    let runs = c.args.runs.now in
-    let i = c.args.index in
-    let next = c.in_ok-next.next in
-    let order = names_of_runs runs in
-    let n = name_at runs i next in
-    let t = c.play_gathered.new.stage in
-    let low : (run_at runs i).first ≤ next = omega (arith, c.requires.low, c.in_ok-next.ensures.more) in
-    let high : next ≤ (run_at runs i).last = c.if-next-run.false in
-    let split = split_at runs i next c.requires.index low high in
-    stands_before s order (names_below runs i next) (rest_of runs i next) n c.requires.within c.requires.playable split t.clients.items t.shared t.brush t.device t.frames c.in_ok-next.ensures.played
+    record {
+      within = c.requires.within;
+      inside = omega (arith, run_inside s runs i next c.requires.within c.requires.playable c.requires.index low high, high);
+      before = stands_before s order (names_below runs i next) (rest_of runs i next) n c.requires.within c.requires.playable split t.clients.items t.shared t.brush t.device t.frames c.in_ok-next.ensures.played;
+    }
 
 pub perform-requires-clause-drawable : goal.perform-requires-clause-drawable
 perform-requires-clause-drawable g c =

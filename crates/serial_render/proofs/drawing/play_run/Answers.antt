@@ -23,3 +23,16 @@ returns g c =
     let inv = c.loop-place.invariant in
     let all : c.loop-place.place - r.first ≡ r.last + 1 - r.first = omega (arith, inv.low, inv.most, c.loop-place-test.false) in
     subst (λ (l : List Name). HasPlayed s (names_of_runs runs) l c.loop-place.stage) (below_end runs c.args.index c.loop-place.place c.requires.index all) inv.played
+
+pub play_part-requires : goal.play_part-requires
+play_part-requires g c =
+    let i = c.loop-place.invariant in
+    let more = c.loop-place-test.true in
+    record {
+      within = c.requires.within;
+      playable = c.requires.playable;
+      index = c.requires.index;
+      low = i.low;
+      high = more;
+      played = i.played;
+    }

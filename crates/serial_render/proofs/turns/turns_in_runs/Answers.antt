@@ -12,7 +12,7 @@ pub loop-progress-init : goal.loop-progress-init
 loop-progress-init c =
     let new = c.in_ok-progress.ensures in
     let on = c.in_ok-advance.ensures in
-    between_first c.args.syncs.now c.in_ok-progress.progress c.advance.new.self new.journal new.order on.way on.journal on.order on.settled
+    between_first c.args.syncs.now c.in_ok-progress.progress c.advance.new.self new.journal new.order on.way.way on.way.journal on.order on.settled
 
 pub returns-clause-journal : goal.returns-clause-journal
 returns-clause-journal c =
@@ -37,3 +37,6 @@ returns-clause-at c =
     if_some_map c.stuck-waiting.result _ (λ (w : Waiting). (client : ℕ) → wait_at w.at client ≡ waiting_of s c.into_journal.result client)
     (λ w h client. h s t.way.book t.way.is_book client ∙ waits_alike s c.turn.new.self t client ∙ ap (λ js. waiting_of s js client) (sym c.into_journal.ensures))
     c.stuck-waiting.ensures.waiting
+
+pub advance-requires : goal.advance-requires
+advance-requires c = record { way = c.in_ok-progress.ensures.way; clients = c.requires.clients; declared = c.requires.declared }

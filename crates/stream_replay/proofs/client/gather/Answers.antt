@@ -1,17 +1,16 @@
-use Rattle.std.proofs.Common.{◌≡◌, ℕ, ◌≤◌, ◌∙◌, ap, length, subst, sym}
+use Rattle.std.proofs.Common.{◌≡◌, ℕ, ◌∙◌, ap, subst, sym}
 use Rattle.std.specs.Prelude.{slice_index_or, slice_set}
 use Rattle.std.proofs.lemmas.Result.{IfOk-weaker}
-use Rattle.rc_base.specs.Contexts.Issue.{stream_of}
 use Rattle.plain_lemmas.proofs.Lists.{read_is_item}
-use Rattle.stream_replay.specs.Clients.{client_after}
+use Rattle.stream_replay.specs.Clients.{AreCommandsOf, client_after}
 use Rattle.stream_replay.specs.Runs.{IsGatheredRun}
 use Rattle.stream_replay.specs.declared.client.Client.{Client}
 use Rattle.stream_replay.proofs.client.gather.Goals as goal
 
-pub gather-requires-clause-inside : goal.gather-requires-clause-inside
-gather-requires-clause-inside g c =
+pub gather-requires-clause-commands : goal.gather-requires-clause-commands
+gather-requires-clause-commands g c =
     let s = g.S.SceneStore.scene c.args.scene.now in
-    subst (λ (k : ℕ). c.args.to ≤ length (stream_of s k)) (sym c.from-2.ensures) c.requires.inside
+    subst (λ (k : ℕ). AreCommandsOf s k c.args.from c.args.to) (sym c.from-2.ensures) c.requires.commands
 
 pub gather-requires-clause-before : goal.gather-requires-clause-before
 gather-requires-clause-before g c =

@@ -22,7 +22,7 @@ loop-client-preserved c =
     elim c.if-is_wanted.branch [
       | then-is_wanted+in_ok-advance_client w ↦
           subst (AreAdvanced s js o (client + 1)) (sym w.self-is)
-          (advanced_more s js o client q w.advance_client.new.self lt c.loop-client.invariant w.in_ok-advance_client.ensures.way w.in_ok-advance_client.ensures.journal
+          (advanced_more s js o client q w.advance_client.new.self lt c.loop-client.invariant w.in_ok-advance_client.ensures.way.way w.in_ok-advance_client.ensures.way.journal
           w.in_ok-advance_client.ensures.order w.in_ok-advance_client.ensures.settled w.in_ok-advance_client.ensures.others)
       | else-is_wanted w ↦
           subst (AreAdvanced s js o (client + 1)) (sym w.self-is) (advanced_skip s js o client q lt c.loop-client.invariant (sym c.is_wanted.ensures ∙ w.if-is_wanted.false))

@@ -23,7 +23,7 @@ tell-requires-clause-declared c w e =
     let client = c.args.client in
     let next_is : c.operation-next.result ≡ slice_get (ops_of s client) (slice_index p.arrived client) =
     c.operation-next.ensures.operation ∙ ap (λ (r : SyncRow). slice_get r.ops (slice_index p.arrived client)) c.row_of-row.ensures in
-    c.requires.way.is_book.declared w.op ∙ c.requires.declared client (slice_index p.arrived client) w (sym next_is ∙ e)
+    c.requires.way.way.is_book.declared w.op ∙ c.requires.way.declared client (slice_index p.arrived client) w (sym next_is ∙ e)
 
 pub returns : goal.returns
 returns c =
@@ -44,15 +44,17 @@ returns c =
     c.place_of-place.ensures ∙ ap (λ (r : SyncRow). option_map_or (λ (w : WaitAt). w.place) next r.length) c.row_of-row.ensures in
     let arrived_is : q.arrived ≡ set p.arrived client (slice_index p.arrived client + bool_byte (is_some next)) =
     ap (λ (k : ℕ). set p.arrived client (slice_index p.arrived client + k)) (c.from.ensures ∙ ap bool_byte c.is_some.ensures) in
-    let places : client < length p.issued = omega (arith, c.requires.way.places, c.requires.client, c.requires.clients) in
-    let arrivals : client < length p.arrived = omega (arith, c.requires.way.arrivals, c.requires.client, c.requires.clients) in
-    let way = c.requires.way in
+    let places : client < length p.issued = omega (arith, c.requires.way.way.places, c.requires.client, c.requires.way.clients) in
+    let arrivals : client < length p.arrived = omega (arith, c.requires.way.way.arrivals, c.requires.client, c.requires.way.clients) in
+    let way = c.requires.way.way in
     let lt = c.requires.client in
     let wanted = c.requires.wanted in
     let book_is = c.in_ok-tell.ensures s in
     record {
-      way = way_advanced s p q client next place way lt wanted next_is place_is c.in_ok-add.ensures refl places arrived_is arrivals book_is;
-      journal = journal_advanced s p q client next place way lt wanted next_is place_is c.in_ok-add.ensures refl places arrived_is arrivals book_is;
+      way = record {
+        way = way_advanced s p q client next place way lt wanted next_is place_is c.in_ok-add.ensures refl places arrived_is arrivals book_is;
+        journal = journal_advanced s p q client next place way lt wanted next_is place_is c.in_ok-add.ensures refl places arrived_is arrivals book_is;
+      };
       order = order_advanced s p q client next place way lt wanted next_is place_is c.in_ok-add.ensures refl places arrived_is arrivals book_is;
       settled = settled_advanced s p q client next place way lt wanted next_is place_is c.in_ok-add.ensures refl places arrived_is arrivals book_is;
       others = others_advanced s p q client next place way lt wanted next_is place_is c.in_ok-add.ensures refl places arrived_is arrivals book_is;

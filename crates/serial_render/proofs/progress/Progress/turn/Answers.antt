@@ -11,13 +11,17 @@ perform-requires-clause-room c =
     let t = c.requires.turns in
     room_next s c.args.self.now t c.grant.new.self c.in-Some.field-0 (c.in-Some.ensures.granted s t.way.book t.way.is_book) (sym (c.in-Some.ensures.entry s t.way.book t.way.is_book)) c.requires.well
 
-pub advance-requires-clause-way : goal.advance-requires-clause-way
-advance-requires-clause-way c =
+pub advance-requires : goal.advance-requires
+advance-requires c =
     let s = c.args.syncs.now in
     let t = c.requires.turns in
     let done = c.in_ok-perform-in-Some.ensures in
-    way_granted s c.args.self.now t c.grant.new.self c.in-Some.field-0 (c.in-Some.ensures.granted s t.way.book t.way.is_book) (sym (c.in-Some.ensures.entry s t.way.book t.way.is_book)) c.requires.well
-    c.perform.new.self done.book done.arrived done.slots done.issued done.names done.order
+    record {
+      way = way_granted s c.args.self.now t c.grant.new.self c.in-Some.field-0 (c.in-Some.ensures.granted s t.way.book t.way.is_book) (sym (c.in-Some.ensures.entry s t.way.book t.way.is_book)) c.requires.well
+          c.perform.new.self done.book done.arrived done.slots done.issued done.names done.order;
+      clients = c.requires.clients;
+      declared = c.requires.declared;
+    }
 
 pub returns-in_ok-advance-in-Some-clause-turns : goal.returns-in_ok-advance-in-Some-clause-turns
 returns-in_ok-advance-in-Some-clause-turns c =
@@ -26,7 +30,7 @@ returns-in_ok-advance-in-Some-clause-turns c =
     let done = c.in_ok-perform-in-Some.ensures in
     let on = c.in_ok-advance-in-Some.ensures in
     between_next s c.args.self.now t c.grant.new.self c.in-Some.field-0 (c.in-Some.ensures.granted s t.way.book t.way.is_book) (sym (c.in-Some.ensures.entry s t.way.book t.way.is_book)) c.requires.well
-    c.perform.new.self done.book done.arrived done.slots done.issued done.names done.order c.advance.new.self on.way on.journal on.order on.settled
+    c.perform.new.self done.book done.arrived done.slots done.issued done.names done.order c.advance.new.self on.way.way on.way.journal on.order on.settled
 
 pub returns-in_ok-advance-in-Some-clause-less : goal.returns-in_ok-advance-in-Some-clause-less
 returns-in_ok-advance-in-Some-clause-less c more =
@@ -36,7 +40,7 @@ returns-in_ok-advance-in-Some-clause-less c more =
     let on = c.in_ok-advance-in-Some.ensures in
     let less = less_next s c.args.self.now t c.grant.new.self c.in-Some.field-0 (c.in-Some.ensures.granted s t.way.book t.way.is_book) (sym (c.in-Some.ensures.entry s t.way.book t.way.is_book)) c.requires.well
     c.perform.new.self done.book done.arrived done.slots done.issued done.names done.order in
-    omega (arith, less, ap (λ (js : List Entry). left_after s js) on.journal)
+    omega (arith, less, ap (λ (js : List Entry). left_after s js) on.way.journal)
 
 pub returns-in-None-clause-turns : goal.returns-in-None-clause-turns
 returns-in-None-clause-turns c =
