@@ -6,17 +6,10 @@ use crate::answer::ExpandFault;
 use crate::given::Given;
 use crate::lists::Lists;
 use rc_base::list_command::ListCommand;
-use std::alloc::Global;
 
 /// Meets the commands of a list, and of those that it calls, so many lists deep.
 #[cycle(calls)]
-fn meet_list(
-    alloc: Global,
-    lists: &Lists<'_>,
-    levels: u8,
-    name: u8,
-    given: &mut Given,
-) -> Result<(), ExpandFault>
+fn meet_list(lists: &Lists<'_>, levels: u8, name: u8, given: &mut Given) -> Result<(), ExpandFault>
     ensures { Meets given.old given.new (called lists.now levels name) result }
 {
     if levels == 0 {
@@ -24,7 +17,7 @@ fn meet_list(
     }
     if let Some(body) = lists.at(name) {
         for i in 0..body.len() {
-            meet_all(alloc, lists, levels - 1, body.at(i), given)?;
+            meet_all(lists, levels - 1, body.at(i), given)?;
         }
     }
     Ok(())
@@ -34,7 +27,6 @@ fn meet_list(
 #[cycle(calls)]
 #[inline(always)]
 pub fn meet_all(
-    alloc: Global,
     lists: &Lists<'_>,
     levels: u8,
     command: &ListCommand,
@@ -42,11 +34,11 @@ pub fn meet_all(
 ) -> Result<(), ExpandFault>
     ensures { Meets given.old given.new (met_with (called lists.now levels) command.now) result }
 {
-    given.meet(alloc, command)?;
+    given.meet(command)?;
     match command {
         ListCommand::Plain(_) => Ok(()),
         ListCommand::NewList(_) => Ok(()),
         ListCommand::EndList => Ok(()),
-        ListCommand::CallList(name) => meet_list(alloc, lists, levels, *name, given),
+        ListCommand::CallList(name) => meet_list(lists, levels, *name, given),
     }
 }

@@ -8,7 +8,6 @@
 mod answer;
 mod body;
 mod calls;
-mod copies;
 mod expanding;
 mod given;
 mod kept;

@@ -5,10 +5,10 @@ ghost use Rattle.call_lists.specs.Giving.{Adds, Meets};
 ghost use Rattle.call_lists.specs.Expansion.{stored, plain_of, most_cost};
 
 use crate::answer::ExpandFault;
-use crate::copies::copy_of;
 use crate::given::Given;
 use crate::kept::Kept;
 use crate::sizes::{cost_of, payload_size};
+use command_store::copy_of;
 use rc_base::command::Command;
 use rc_base::list_command::ListCommand;
 use rc_base::out_of_memory::OutOfMemory;
@@ -36,7 +36,7 @@ impl Given {
     }
 
     /// Adds a command, where there is room for it, and counts it.
-    fn give(&mut self, alloc: Global, command: &Command) -> Result<(), OutOfMemory>
+    fn give(&mut self, command: &Command) -> Result<(), OutOfMemory>
         requires { self.old.count < self.old.spent }
         ensures given { OnOk result (self.new.commands
             ≡ stored (self.old.commands ++ command.now ∷ [])) }
@@ -44,14 +44,14 @@ impl Given {
         ensures spent { OnOk result (self.new.spent ≡ self.old.spent) }
     {
         if self.commands.len() < MOST_GIVEN {
-            self.commands.push(copy_of(alloc, command)?)?;
+            self.commands.push(copy_of(command)?)?;
         }
         self.count += 1;
         Ok(())
     }
 
     /// Adds a command that was paid for, if it is a plain one.
-    fn give_plain(&mut self, alloc: Global, command: &ListCommand) -> Result<(), OutOfMemory>
+    fn give_plain(&mut self, command: &ListCommand) -> Result<(), OutOfMemory>
         requires { self.old.count < self.old.spent }
         ensures given { OnOk result (self.new.commands
             ≡ stored (self.old.commands ++ plain_of command.now)) }
@@ -60,7 +60,7 @@ impl Given {
         ensures spent { OnOk result (self.new.spent ≡ self.old.spent) }
     {
         match command {
-            ListCommand::Plain(plain) => self.give(alloc, plain),
+            ListCommand::Plain(plain) => self.give(plain),
             ListCommand::NewList(_) => Ok(()),
             ListCommand::EndList => Ok(()),
             ListCommand::CallList(_) => Ok(()),
@@ -120,7 +120,7 @@ impl Given {
 
     /// Meets a command.
     #[inline(always)]
-    pub fn meet(&mut self, alloc: Global, command: &ListCommand) -> Result<(), ExpandFault>
+    pub fn meet(&mut self, command: &ListCommand) -> Result<(), ExpandFault>
         ensures { Meets self.old self.new (command.now ∷ []) result }
     {
         if let ListCommand::Plain(plain) = command {
@@ -128,12 +128,12 @@ impl Given {
                 return Ok(());
             }
         }
-        self.meet_any(alloc, command)
+        self.meet_any(command)
     }
 
     // Meets a command, whether there is room at hand or not.
     #[inline(never)]
-    fn meet_any(&mut self, alloc: Global, command: &ListCommand) -> Result<(), ExpandFault>
+    fn meet_any(&mut self, command: &ListCommand) -> Result<(), ExpandFault>
         ensures { Meets self.old self.new (command.now ∷ []) result }
     {
         let spent = self.spent + cost_of(command);
@@ -141,7 +141,7 @@ impl Given {
             return Err(ExpandFault::TooLong { spent });
         }
         self.spent = spent;
-        self.give_plain(alloc, command)?;
+        self.give_plain(command)?;
         Ok(())
     }
 }

@@ -19,7 +19,6 @@ const MOST_LEVELS: u8 = 8;
 
 /// Meets what is met where the stream has come to a command.
 fn meet_at(
-    alloc: Global,
     standing: &Standing<'_>,
     command: &ListCommand,
     given: &mut Given,
@@ -27,8 +26,8 @@ fn meet_at(
     ensures { Meets given.old given.new (met_at (state_of standing.now) command.now) result }
 {
     match (&standing.recording, command) {
-        (None, _) => meet_all(alloc, &standing.lists, MOST_LEVELS, command, given),
-        (Some(_), ListCommand::EndList) => given.meet(alloc, command),
+        (None, _) => meet_all(&standing.lists, MOST_LEVELS, command, given),
+        (Some(_), ListCommand::EndList) => given.meet(command),
         (Some(_), ListCommand::Plain(_)) => Ok(()),
         (Some(_), ListCommand::NewList(_)) => Ok(()),
         (Some(_), ListCommand::CallList(_)) => Ok(()),
@@ -65,7 +64,7 @@ fn take_any<'a>(
     ensures { IsTaken place command.now standing.old standing.new faults.old faults.new
         given.old given.new result }
 {
-    meet_at(alloc, standing, command, given)?;
+    meet_at(standing, command, given)?;
     Ok(judge(alloc, standing, faults, place, command)?)
 }
 
@@ -83,7 +82,7 @@ pub fn take_command<'a>(
         given.old given.new result }
 {
     match (&standing.recording, command) {
-        (None, ListCommand::Plain(_)) => given.meet(alloc, command),
+        (None, ListCommand::Plain(_)) => given.meet(command),
         _ => take_any(alloc, standing, faults, given, place, command),
     }
 }

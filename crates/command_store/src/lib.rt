@@ -12,5 +12,5 @@ mod writer;
 
 pub use form::CommandForm;
 pub use scene::StoredScene;
-pub use store::CommandStore;
+pub use store::{CommandStore, copy_of};
 pub use writer::StoreWriter;

@@ -96,7 +96,8 @@ impl CommandStore {
     }
 }
 
-fn copy_of(command: &Command) -> Result<Command, OutOfMemory>
+/// A command with the same fields. Only one with texels takes memory.
+pub fn copy_of(command: &Command) -> Result<Command, OutOfMemory>
     ensures { IfOk result (λ c. c ≡ command.now) }
 {
     Ok(command.clone()?)

@@ -14,19 +14,6 @@ pub fn ranges_of(opcode: Opcode) -> &'static [NumberRange]
         | Opcode::PushMatrix
         | Opcode::PopMatrix
         | Opcode::Swap => &[],
-        Opcode::Begin
-        | Opcode::Enable
-        | Opcode::Disable
-        | Opcode::MatrixMode
-        | Opcode::DepthFunc
-        | Opcode::DepthMask
-        | Opcode::Clear
-        | Opcode::CullFace
-        | Opcode::FrontFace
-        | Opcode::TexEnv
-        | Opcode::Barrier
-        | Opcode::SemP
-        | Opcode::SemV => &[NumberRange::Byte],
         Opcode::AlphaFunc | Opcode::BlendFunc | Opcode::BindTexture | Opcode::TexWrap => {
             &[NumberRange::Byte; 2]
         }
@@ -43,6 +30,7 @@ pub fn ranges_of(opcode: Opcode) -> &'static [NumberRange]
             NumberRange::Half,
             NumberRange::Half,
         ],
+        _ => &[NumberRange::Byte],
     }
 }
 

@@ -143,8 +143,8 @@ fn add_any<'a, L: HoldsCommands>(
     Ok(rest)
 }
 
-/// Adds the command of an opcode whose payload stands at the front, and gives the bytes behind it. Each opcode has a branch of its own, so the table
-/// is read when this is compiled.
+/// Adds the command of an opcode whose payload stands at the front, and gives the bytes behind it. Each opcode that streams have much of has a branch of its
+/// own, so its row of the table is read when this is compiled.
 #[inline(always)]
 pub fn add_command<'a, L: HoldsCommands>(
     commands: &mut L,
@@ -164,34 +164,14 @@ pub fn add_command<'a, L: HoldsCommands>(
         Opcode::TexCoord => add_any::<L>(commands, alloc, Opcode::TexCoord, bytes),
         Opcode::Enable => add_any::<L>(commands, alloc, Opcode::Enable, bytes),
         Opcode::Disable => add_any::<L>(commands, alloc, Opcode::Disable, bytes),
-        Opcode::MatrixMode => add_any::<L>(commands, alloc, Opcode::MatrixMode, bytes),
-        Opcode::LoadIdentity => add_any::<L>(commands, alloc, Opcode::LoadIdentity, bytes),
         Opcode::LoadMatrix => add_any::<L>(commands, alloc, Opcode::LoadMatrix, bytes),
-        Opcode::MultMatrix => add_any::<L>(commands, alloc, Opcode::MultMatrix, bytes),
-        Opcode::PushMatrix => add_any::<L>(commands, alloc, Opcode::PushMatrix, bytes),
-        Opcode::PopMatrix => add_any::<L>(commands, alloc, Opcode::PopMatrix, bytes),
-        Opcode::Viewport => add_any::<L>(commands, alloc, Opcode::Viewport, bytes),
-        Opcode::DepthRange => add_any::<L>(commands, alloc, Opcode::DepthRange, bytes),
-        Opcode::Scissor => add_any::<L>(commands, alloc, Opcode::Scissor, bytes),
-        Opcode::AlphaFunc => add_any::<L>(commands, alloc, Opcode::AlphaFunc, bytes),
         Opcode::DepthFunc => add_any::<L>(commands, alloc, Opcode::DepthFunc, bytes),
-        Opcode::DepthMask => add_any::<L>(commands, alloc, Opcode::DepthMask, bytes),
         Opcode::BlendFunc => add_any::<L>(commands, alloc, Opcode::BlendFunc, bytes),
-        Opcode::ColorMask => add_any::<L>(commands, alloc, Opcode::ColorMask, bytes),
-        Opcode::ClearColor => add_any::<L>(commands, alloc, Opcode::ClearColor, bytes),
-        Opcode::ClearDepth => add_any::<L>(commands, alloc, Opcode::ClearDepth, bytes),
-        Opcode::Clear => add_any::<L>(commands, alloc, Opcode::Clear, bytes),
-        Opcode::CullFace => add_any::<L>(commands, alloc, Opcode::CullFace, bytes),
-        Opcode::FrontFace => add_any::<L>(commands, alloc, Opcode::FrontFace, bytes),
         Opcode::BindTexture => add_any::<L>(commands, alloc, Opcode::BindTexture, bytes),
-        Opcode::TexEnv => add_any::<L>(commands, alloc, Opcode::TexEnv, bytes),
-        Opcode::TexWrap => add_any::<L>(commands, alloc, Opcode::TexWrap, bytes),
-        Opcode::TexImage => add_any::<L>(commands, alloc, Opcode::TexImage, bytes),
-        Opcode::TexPart => add_any::<L>(commands, alloc, Opcode::TexPart, bytes),
-        Opcode::SharedImage => add_any::<L>(commands, alloc, Opcode::SharedImage, bytes),
         Opcode::Barrier => add_any::<L>(commands, alloc, Opcode::Barrier, bytes),
         Opcode::SemP => add_any::<L>(commands, alloc, Opcode::SemP, bytes),
         Opcode::SemV => add_any::<L>(commands, alloc, Opcode::SemV, bytes),
         Opcode::Swap => add_any::<L>(commands, alloc, Opcode::Swap, bytes),
+        _ => add_any::<L>(commands, alloc, opcode, bytes),
     }
 }
