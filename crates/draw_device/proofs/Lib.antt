@@ -6,7 +6,6 @@ pub mod Places
 mod Steps
 mod ColumnsToPixels
 mod Beside
-mod Codes
 mod NearerPixels
 mod CopiedRuns
 mod ChangedGrids

@@ -1,6 +1,6 @@
 //! A row of colours blended with those that are stored.
 ghost use Rattle.std.specs.Prelude.{◌≡◌, length, true};
-ghost use Rattle.fragment_ops.specs.Blends.{IsFactor, masked_by};
+ghost use Rattle.fragment_ops.specs.Blends.{factor_of, masked_by};
 ghost use Rattle.fragment_ops.specs.Shortcuts.{blends_over, blends_sum};
 ghost use Rattle.draw_device.specs.Loops.{AreColumnsOfBoth, IsColorRun, mixed_over, written_over};
 ghost use Rattle.draw_device.specs.Pixels.{color_at};
@@ -46,8 +46,8 @@ fn blend_pair<const FIRST: u8, const SECOND: u8>(
     to: u16,
 )
     requires columns { AreColumnsOfBoth (length colors.old) (length stored.now) from to }
-    requires first { IsFactor FIRST blending.now.first }
-    requires second { IsFactor SECOND blending.now.second }
+    requires first { blending.now.first ≡ factor_of FIRST }
+    requires second { blending.now.second ≡ factor_of SECOND }
     ensures { IsColorRun (mixed_over blending.now stored.now) from to colors.old colors.new }
 {
     let _blending = blending;
@@ -77,7 +77,6 @@ macro_rules! by_factor {
 }
 
 // The same by the factor of the stored colour: a loop for each.
-#[tactic(auto, using(crate::proofs::Codes::code_0, crate::proofs::Codes::code_1, crate::proofs::Codes::code_2, crate::proofs::Codes::code_3, crate::proofs::Codes::code_4, crate::proofs::Codes::code_5, crate::proofs::Codes::code_6, crate::proofs::Codes::code_7, crate::proofs::Codes::code_8, crate::proofs::Codes::code_9))]
 fn blend_second<const FIRST: u8>(
     colors: &mut [Rgba],
     stored: &[Rgba],
@@ -86,7 +85,7 @@ fn blend_second<const FIRST: u8>(
     to: u16,
 )
     requires columns { AreColumnsOfBoth (length colors.old) (length stored.now) from to }
-    requires first { IsFactor FIRST blending.now.first }
+    requires first { blending.now.first ≡ factor_of FIRST }
     ensures { IsColorRun (mixed_over blending.now stored.now) from to colors.old colors.new }
 {
     by_factor!(
@@ -97,7 +96,6 @@ fn blend_second<const FIRST: u8>(
 
 /// Blending by any two factors: a loop for each pair.
 #[inline(never)]
-#[tactic(auto, using(crate::proofs::Codes::code_0, crate::proofs::Codes::code_1, crate::proofs::Codes::code_2, crate::proofs::Codes::code_3, crate::proofs::Codes::code_4, crate::proofs::Codes::code_5, crate::proofs::Codes::code_6, crate::proofs::Codes::code_7, crate::proofs::Codes::code_8, crate::proofs::Codes::code_9))]
 pub(crate) fn blend_colors(
     colors: &mut [Rgba],
     stored: &[Rgba],

@@ -1,5 +1,5 @@
 -- Blend factors that were prepared once for a draw, and colours that are blended by them.
-use Rattle.std.specs.Prelude.{◌≡◌, ℕ, ◌-◌, Bool, true, false, List, slice_index, slice_index_or, if◌then◌else◌}
+use Rattle.std.specs.Prelude.{◌≡◌, ℕ, ◌-◌, ◌==◌, Bool, true, false, List, slice_index, slice_index_or, if◌then◌else◌}
 use Rattle.rc_base.specs.Colors.{rgba, prod}
 use Rattle.rc_base.specs.Drawing.PixelStep.{factor, mixed}
 use Rattle.rc_base.specs.declared.command.Rgba.{Rgba}
@@ -21,7 +21,21 @@ factor_value factors.OneMinusSrcAlpha source stored source_alpha stored_alpha = 
 factor_value factors.DstAlpha source stored source_alpha stored_alpha = stored_alpha
 factor_value factors.OneMinusDstAlpha source stored source_alpha stored_alpha = 255 - stored_alpha
 
--- the factor is that of a code
+-- the factor that a code names
+abbrev pub factor_of : ℕ → Factor
+factor_of code =
+    if code == 0 then factors.Zero
+    else if code == 1 then factors.One
+    else if code == 2 then factors.SrcColor
+    else if code == 3 then factors.OneMinusSrcColor
+    else if code == 4 then factors.DstColor
+    else if code == 5 then factors.OneMinusDstColor
+    else if code == 6 then factors.SrcAlpha
+    else if code == 7 then factors.OneMinusSrcAlpha
+    else if code == 8 then factors.DstAlpha
+    else factors.OneMinusDstAlpha
+
+-- the factor does what a code does
 abbrev pub IsFactor : ℕ → Factor → Type 0
 IsFactor code f = (source stored source_alpha stored_alpha : ℕ)
     → factor_value f source stored source_alpha stored_alpha ≡ factor code source stored source_alpha stored_alpha

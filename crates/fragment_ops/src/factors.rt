@@ -2,7 +2,7 @@
 ghost use Rattle.std.specs.Prelude.{◌≡◌, ◌-◌};
 ghost use Rattle.rc_base.specs.Colors.{rgba};
 ghost use Rattle.rc_base.specs.declared.state.State.{State as AnyState};
-ghost use Rattle.fragment_ops.specs.Blends.{IsFactor, IsBlending, scaled_by, color_blended, mixed_color, masked_by};
+ghost use Rattle.fragment_ops.specs.Blends.{factor_of, IsFactor, IsBlending, scaled_by, color_blended, mixed_color, masked_by};
 
 use crate::blend::mask;
 use crate::colors::{blend_sum, modulate, scale_color};
@@ -12,7 +12,8 @@ use rc_base::command::Rgba;
 /// The factor of a code.
 #[inline(always)]
 pub fn factor_named(code: u8) -> Factor
-    ensures { IsFactor code result }
+    ensures named { result ≡ factor_of code }
+    ensures factor { IsFactor code result }
 {
     match code {
         0 => Factor::Zero,

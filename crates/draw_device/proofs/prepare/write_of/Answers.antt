@@ -15,11 +15,11 @@ returns-then-not-state c = c.if-not-state.true
 
 pub returns-then-writes_channels : goal.returns-then-writes_channels
 returns-then-writes_channels c =
-    (record { on = c.if-not-state.false; first = c.factor_named-first.ensures; second = c.factor_named-second.ensures }, sym c.writes_channels.ensures ∙ c.if-writes_channels.true)
+    (record { on = c.if-not-state.false; first = c.factor_named-first.ensures.factor; second = c.factor_named-second.ensures.factor }, sym c.writes_channels.ensures ∙ c.if-writes_channels.true)
 
 pub returns : goal.returns
 returns c = record {
   on = c.if-not-state.false;
-  first = c.factor_named-first.ensures;
-  second = c.factor_named-second.ensures;
+  first = c.factor_named-first.ensures.factor;
+  second = c.factor_named-second.ensures.factor;
 }
