@@ -10,8 +10,8 @@ use Rattle.rc_base.specs.declared.window.WindowVertex.{WindowVertex}
 use Rattle.rc_base.specs.declared.window.ClipVertex.{ClipVertex}
 use Rattle.geometry.specs.declared.cut_triangle.Pieces.{Pieces}
 use Rattle.geometry.specs.declared.cutting.Point.{Point}
-use Rattle.rc_base.specs.Drawing.Pieces.{front_pieces, vertex_pieces}
-use Rattle.rc_base.specs.Drawing.Window.{clip_vertex, window_at, is_placed_at}
+use Rattle.rc_base.specs.Drawing.Pieces.{vertex_pieces}
+use Rattle.rc_base.specs.Drawing.Window.{window_at, is_placed_at}
 use Rattle.rc_base.specs.Drawing.Kept.{kept_at, vertex_at}
 
 -- where a vertex in clip coordinates stands in the window: nowhere, if it isn't placed
@@ -36,11 +36,7 @@ kept_piece s pieces k = option_map_or (kept_at s) (slice_get pieces k) None
 abbrev pub IsPiece : State → List (List ClipVertex) → ℕ → Option WindowTriangle → Type 0
 IsPiece s pieces k r = MatchOption r (kept_piece s pieces k ≡ None) (λ t. kept_piece s pieces k ≡ Some t.v)
 
--- the pieces of the triangle of three vertices in front of the near plane
-abbrev pub front_pieces_of : State → List Vertex → List (List ClipVertex)
-front_pieces_of s vs = front_pieces (clip_vertex s (vertex_at vs 0)) (clip_vertex s (vertex_at vs 1)) (clip_vertex s (vertex_at vs 2))
-
--- its pieces in a block of that mode, in clip coordinates
+-- the pieces of the triangle of three vertices in a block of that mode, in clip coordinates
 abbrev pub corner_pieces : State → ℕ → List Vertex → List (List ClipVertex)
 corner_pieces s mode vs = vertex_pieces s mode (vertex_at vs 0) (vertex_at vs 1) (vertex_at vs 2)
 

@@ -40,7 +40,7 @@ pub record IsClipRatio (z w : ℤ) : Type 0 where
   pub divisor : Within (2 ^ 65) w
 
 -- three corners lie within the bounds of window coordinates
-pub record AreInBounds (a b c : WindowVertex) : Type 0 where
+pub record AreCornersInBounds (a b c : WindowVertex) : Type 0 where
   pub first : IsInBounds a
   pub second : IsInBounds b
   pub third : IsInBounds c

@@ -1,10 +1,10 @@
 //! The pieces of a triangle of a block: itself, or what of it is in front of the near plane.
-ghost use Rattle.std.specs.Prelude.{◌≡◌, ◌^◌, ◌<◌, ◌∷◌, [], pos, true, false, None, Some, MatchOption};
+ghost use Rattle.std.specs.Prelude.{◌≡◌, ℕ, ◌^◌, ◌<◌, ◌∷◌, [], pos, true, false, None, Some, MatchOption};
 ghost use Rattle.rc_base.specs.Numbers.{Within};
 ghost use Rattle.rc_base.specs.Drawing.Kept.{three, oriented, is_kept_at, vertex_at};
-ghost use Rattle.rc_base.specs.Drawing.Window.{window_at};
-ghost use Rattle.rc_base.specs.Drawing.Pieces.{is_cuttable, fan_of, polygon_of, kept_pieces};
-ghost use Rattle.geometry.specs.Pieces.{IsPlaceAt, IsPoint, ArePoints, IsPiece, ArePieces, found_in, front_pieces_of, corner_pieces};
+ghost use Rattle.rc_base.specs.Drawing.Window.{clip_vertex, window_at};
+ghost use Rattle.rc_base.specs.Drawing.Pieces.{is_cuttable, fan_of, polygon_of, front_pieces, kept_pieces};
+ghost use Rattle.geometry.specs.Pieces.{IsPlaceAt, IsPoint, ArePoints, IsPiece, ArePieces, found_in, corner_pieces};
 
 use crate::clipping::{crossing_point, cuttable_vertex, is_in_front};
 use crate::cut_triangle::Pieces;
@@ -136,7 +136,8 @@ fn pieces_in_front(state: &State, a: &ClipVertex, b: &ClipVertex, c: &ClipVertex
 // The pieces of a triangle of three vertices.
 #[tactic(auto, unfolding(rc_base::specs::Drawing::Pieces::front_pieces))]
 fn cut(state: &State, corners: &[Vertex; 3]) -> Pieces
-    ensures { ArePieces state.now (front_pieces_of state.now corners.now) result }
+    ensures { let at = λ (i : ℕ). clip_vertex state.now (vertex_at corners.now i) in
+        ArePieces state.now (front_pieces (at 0) (at 1) (at 2)) result }
 {
     let identities = identities_of(state);
     let Some(a) = cuttable_vertex(state, identities, &corners[0]) else {

@@ -4,7 +4,7 @@ ghost use Rattle.rc_base.specs.Numbers.{Within};
 ghost use Rattle.rc_base.specs.Drawing.Cover.{triangle_area, IsInBounds};
 ghost use Rattle.rc_base.specs.Drawing.Kept.{three, is_front, is_culled, is_shown, oriented, is_kept_at, clip_corners, kept_of, vertex_at};
 ghost use Rattle.rc_base.specs.Drawing.Window.{window_of};
-ghost use Rattle.geometry.specs.Placed.{AreInBounds};
+ghost use Rattle.geometry.specs.Placed.{AreCornersInBounds};
 
 use crate::identities::identities_of;
 use crate::vertex::stand_of;
@@ -34,7 +34,7 @@ fn culled(state: &State, area: i64) -> bool
 
 #[inline(always)]
 fn make(a: &WindowVertex, b: &WindowVertex, c: &WindowVertex, area: i64) -> WindowTriangle
-    requires corners { AreInBounds a.now b.now c.now }
+    requires corners { AreCornersInBounds a.now b.now c.now }
     requires area { area ≡ triangle_area (three a.now b.now c.now) }
     requires positive { pos 0 <ℤ area }
     ensures { result.v ≡ three a.now b.now c.now }
@@ -47,7 +47,7 @@ fn make(a: &WindowVertex, b: &WindowVertex, c: &WindowVertex, area: i64) -> Wind
 
 #[inline(always)]
 fn signed_area(a: &WindowVertex, b: &WindowVertex, c: &WindowVertex) -> i64
-    requires { AreInBounds a.now b.now c.now }
+    requires { AreCornersInBounds a.now b.now c.now }
     ensures value { result ≡ triangle_area (three a.now b.now c.now) }
     ensures small { Within (2 ^ 44) result }
 {
@@ -70,7 +70,7 @@ pub(crate) fn is_dropped(
     b: &WindowVertex,
     c: &WindowVertex,
 ) -> bool
-    requires { AreInBounds a.now b.now c.now }
+    requires { AreCornersInBounds a.now b.now c.now }
     ensures { result ≡ not (is_shown state.now (triangle_area (three a.now b.now c.now))) }
 {
     let area = signed_area(a, b, c);
@@ -90,7 +90,7 @@ fn chosen<'a>(first: bool, a: &'a WindowVertex, b: &'a WindowVertex) -> &'a Wind
 /// The triangle of three corners that has an area, counterclockwise.
 #[inline(always)]
 pub(crate) fn turned(a: &WindowVertex, b: &WindowVertex, c: &WindowVertex) -> WindowTriangle
-    requires corners { AreInBounds a.now b.now c.now }
+    requires corners { AreCornersInBounds a.now b.now c.now }
     requires apart { triangle_area (three a.now b.now c.now) ≡ pos 0 → ⊥ }
     ensures { result.v ≡ oriented a.now b.now c.now }
 {
@@ -112,7 +112,7 @@ pub(crate) fn assemble(
     b: WindowVertex,
     c: WindowVertex,
 ) -> Option<WindowTriangle>
-    requires { AreInBounds a b c }
+    requires { AreCornersInBounds a b c }
     ensures { MatchOption result
         (is_shown state.now (triangle_area (three a b c)) ≡ false)
         (λ t. (is_shown state.now (triangle_area (three a b c)) ≡ true) × (t.v ≡ oriented a b c)) }

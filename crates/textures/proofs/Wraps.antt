@@ -7,7 +7,7 @@ use lib.IntN.{*ℤ_comm}
 use Rattle.rc_base.proofs.Signed.{sum_times, times_assoc, mul_mono}
 use Rattle.rc_base.specs.Numbers.{floor_quotient}
 use Rattle.rc_base.specs.Numbers.{natural}
-use Rattle.textures.specs.Axis.{repeated}
+use Rattle.rc_base.specs.Drawing.Texel.{texel_index}
 
 parts : (c : ℤ) → floor_quotient c (pos 65536) *ℤ pos 65536 +ℤ int_rem_euclid c (pos 65536) ≡ c
 parts (pos a) = omega (arith, ints)
@@ -31,8 +31,7 @@ below f side h k =
     let c : pos side *ℤ pos f ≡ pos (f * side) = *ℤ_comm (pos side) (pos f) in
     omega (arith, ints, m, c, k)
 
-pub repeated_is : (side f : ℕ) (c : ℤ) → 0 < side → f < 65536 → pos f ≡ int_rem_euclid c (pos 65536) → (f * side) / 65536 ≡ repeated side c
-unfolding repeated
+pub repeated_is : (side f : ℕ) (c : ℤ) → 0 < side → f < 65536 → pos f ≡ int_rem_euclid c (pos 65536) → (f * side) / 65536 ≡ texel_index 0 side c
 repeated_is side f c some small e =
     let q = floor_quotient c (pos 65536) in
     let a : c *ℤ pos side ≡ (q *ℤ pos side) *ℤ pos 65536 +ℤ pos (f * side) =

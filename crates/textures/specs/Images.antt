@@ -57,10 +57,6 @@ part name x y w h bytes = record { name = name; x = x; y = y; w = w; h = h; texe
 abbrev pub picture_with : List ℕ → List ℕ → Picture
 picture_with sides bytes = picture (slice_index sides 0) (slice_index sides 1) bytes
 
--- the bytes of the picture of these sides after a part was written
-abbrev pub texels_with_part : List ℕ → List ℕ → Part → List ℕ
-texels_with_part sides bytes part = (with_part (picture_with sides bytes) part).texels
-
 -- the part's first rows
 abbrev pub first_rows : Part → ℕ → Part
 first_rows p n = record p { h = n }

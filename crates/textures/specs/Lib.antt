@@ -1,4 +1,3 @@
-pub mod Axis
 pub mod Images
 pub mod Views
 pub mod Stores

@@ -1,10 +1,8 @@
 //! Columns and rows of texels by 16.16 coordinates.
-ghost use Rattle.std.specs.Prelude.{◌≡◌, ◌<◌, ◌≤◌, ◌*◌, ◌-◌, ◌^◌, pos, ◌*ℤ◌};
-ghost use Rattle.std.specs.Int.{int_rem_euclid, int_min, int_max};
+ghost use Rattle.std.specs.Prelude.{◌≡◌, ◌<◌, ◌*◌, pos, ◌*ℤ◌};
+ghost use Rattle.std.specs.Int.{int_rem_euclid};
 ghost use Rattle.rc_base.specs.Numbers.{floor_quotient};
-ghost use Rattle.rc_base.specs.Numbers.{natural};
 ghost use Rattle.rc_base.specs.Drawing.Texel.{texel_index};
-ghost use Rattle.textures.specs.Axis.{repeated, clamped};
 
 // The part of a coordinate that REPEAT keeps: its sixteen bits below the point.
 fn fraction(coordinate: i32) -> u32
@@ -25,7 +23,7 @@ fn scaled(part: u32, side: u16) -> u64
 #[inline(always)]
 pub(crate) fn repeat(coordinate: i32, side: u16) -> u16
     requires { 0 < side }
-    ensures value { result ≡ repeated side coordinate }
+    ensures value { result ≡ texel_index 0 side coordinate }
     ensures inside { result < side }
 {
     (scaled(fraction(coordinate), side) / 65_536) as u16
@@ -44,31 +42,23 @@ fn index(coordinate: i32, side: u16) -> i64
     product(coordinate, side).div_euclid(65_536)
 }
 
-fn bounded(index: i64, side: u16) -> u16
-    requires { 0 < side }
-    ensures value { result ≡ natural (int_max (pos 0) (int_min index (pos (side - 1)))) }
-    ensures inside { result < side }
-{
-    if index < 0 {
-        return 0;
-    }
-    if index >= i64::from(side) {
-        return side - 1;
-    }
-    index as u16
-}
-
-#[tactic(auto, unfolding(crate::specs::Axis::clamped))]
+// The column or row of a coordinate along a side at whose ends it stays.
 fn clamp(coordinate: i32, side: u16) -> u16
     requires { 0 < side }
-    ensures value { result ≡ clamped side coordinate }
+    ensures value { result ≡ texel_index 1 side coordinate }
     ensures inside { result < side }
 {
-    bounded(index(coordinate, side), side)
+    let at = index(coordinate, side);
+    if at < 0 {
+        return 0;
+    }
+    if at >= i64::from(side) {
+        return side - 1;
+    }
+    at as u16
 }
 
 /// The column or row of a coordinate along a side, which wraps by REPEAT (0) or CLAMP.
-#[tactic(auto, unfolding(crate::specs::Axis::repeated, crate::specs::Axis::clamped))]
 pub(crate) fn index_of(wrap: u8, side: u16, coordinate: i32) -> u16
     requires { 0 < side }
     ensures value { result ≡ texel_index wrap side coordinate }

@@ -49,7 +49,7 @@ impl<'a> Sampler<'a> {
 
     /// The same of an image that repeats along both sides.
     #[inline(always)]
-    #[tactic(auto, unfolding(rc_base::specs::Drawing::Texel::texel_of, crate::specs::Axis::repeated))]
+    #[tactic(auto, unfolding(rc_base::specs::Drawing::Texel::texel_of))]
     pub fn nearest_repeated(&self, s: i32, t: i32) -> Rgba
         requires across { self.now.wrap_s ≡ 0 }
         requires up { self.now.wrap_t ≡ 0 }

@@ -1,6 +1,7 @@
 //! Writing a part of a picture.
 ghost use Rattle.std.specs.Prelude.{◌≡◌, ◌≤◌, ◌+◌, ◌*◌, ◌++◌, length, take, drop};
-ghost use Rattle.textures.specs.Images.{Fits, picture_with, part, texels_with_part};
+ghost use Rattle.rc_base.specs.Pictures.{with_part};
+ghost use Rattle.textures.specs.Images.{Fits, picture_with, part};
 
 // Writes bytes over those from place `at` on.
 fn write_at(bytes: &mut [u8], at: usize, new: &[u8])
@@ -22,7 +23,8 @@ fn row_of_texels(texels: &[u8], wide: usize, row: usize) -> &[u8]
 // Writes a part of the texels of a picture of these sides, row by row.
 pub fn write_part(bytes: &mut [u8], sides: [u16; 2], x: u16, y: u16, w: u16, h: u16, texels: &[u8])
     requires fits { Fits (picture_with sides bytes.old) (part 0 x y w h texels.now) }
-    ensures { bytes.new ≡ texels_with_part sides bytes.old (part 0 x y w h texels.now) }
+    ensures { let whole = with_part (picture_with sides bytes.old) (part 0 x y w h texels.now) in
+        bytes.new ≡ whole.texels }
 {
     let wide = usize::from(sides[0]);
     for row in 0..usize::from(h) {
