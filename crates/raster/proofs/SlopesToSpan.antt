@@ -19,7 +19,7 @@ use Rattle.raster.specs.Columns.{IsTurn, AreKept, strict_value}
 use Rattle.raster.specs.Lanes.{AreLanes}
 use Rattle.raster.specs.Slopes.{AreTurns, IsSlope, AreSlopes}
 use Rattle.raster.specs.Ways.{IsWay}
-use Rattle.raster.specs.Reciprocal.{IsInverse}
+use Rattle.raster.specs.Reciprocal.{IsReciprocal}
 use Rattle.raster.specs.Spans.{IsEmptyRow, IsRowSpan}
 use Rattle.raster.proofs.KeptColumns.{kept_rising, kept_falling, kept_all, kept_none, turn_same}
 use Rattle.raster.proofs.KeptRows.{passes_strict, not_above}
@@ -27,7 +27,7 @@ use Rattle.raster.proofs.BitsToSpan.{exact_empty, exact_span}
 use Rattle.raster.proofs.Products.{between}
 
 -- the whole steps of a distance, by the inverse of the step
-pub whole_steps : (step distance : ℤ) (inverse k : ℕ) → IsInverse step inverse → pos 0 <ℤ step → pos 0 ≤ℤ distance → (distance *ℤ step) <ℤ pos (2 ^ 64)
+pub whole_steps : (step distance : ℤ) (inverse k : ℕ) → IsReciprocal 64 step inverse → pos 0 <ℤ step → pos 0 ≤ℤ distance → (distance *ℤ step) <ℤ pos (2 ^ 64)
     → (pos (2 ^ 64) *ℤ pos k) ≤ℤ (distance *ℤ pos inverse) → (distance *ℤ pos inverse) <ℤ (pos (2 ^ 64) *ℤ pos k +ℤ pos (2 ^ 64))
     → ((step *ℤ pos k) ≤ℤ distance) × (distance <ℤ (step *ℤ pos k +ℤ step))
 whole_steps step distance inverse k s some low few under over =

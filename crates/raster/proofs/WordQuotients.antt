@@ -145,7 +145,7 @@ top_value x q h e =
 
 -- ---- by the reciprocal
 
-pub quotient_by_reciprocal : (m area : ℤ) (n r p : ℕ) → m ≡ pos n → IsReciprocal area r → (m *ℤ area) ≤ℤ pos (2 ^ 83) → p ≡ (n * r) % 2 ^ 128 → IsWordQuotient m area 1 p
+pub quotient_by_reciprocal : (m area : ℤ) (n r p : ℕ) → m ≡ pos n → IsReciprocal 96 area r → (m *ℤ area) ≤ℤ pos (2 ^ 83) → p ≡ (n * r) % 2 ^ 128 → IsWordQuotient m area 1 p
 quotient_by_reciprocal m area n r p em s small e =
     let b = between area m (pos r) in
     let l = mul_mono m _ _ (omega (arith, ints, em)) s.low in
@@ -161,7 +161,7 @@ quotient_by_reciprocal m area n r p em s small e =
     }
 
 -- of -m, by the reciprocal rounded down
-pub quotient_by_reciprocal_below : (m area : ℤ) (n r q p : ℕ) → m ≡ pos n → IsReciprocal area (q + 1) → (m *ℤ area) ≤ℤ pos (2 ^ 83)
+pub quotient_by_reciprocal_below : (m area : ℤ) (n r q p : ℕ) → m ≡ pos n → IsReciprocal 96 area (q + 1) → (m *ℤ area) ≤ℤ pos (2 ^ 83)
     → r ≡ (n * q) % 2 ^ 128 → p ≡ (0 + (2 ^ 128 - r)) % 2 ^ 128 → IsWordQuotient (neg_ℤ m) area 1 p
 quotient_by_reciprocal_below m area n r q p em s small er e =
     let u : pos (q + 1) ≡ pos q +ℤ pos 1 = omega (arith, ints) in
@@ -207,7 +207,7 @@ byte_of_word n area p q s some small e =
     }
 
 -- a reciprocal isn't 0
-pub some_parts : (area : ℤ) (r : ℕ) → pos 0 <ℤ area → IsReciprocal area r → r ≡ (r - 1) + 1
+pub some_parts : (area : ℤ) (r : ℕ) → pos 0 <ℤ area → IsReciprocal 96 area r → r ≡ (r - 1) + 1
 some_parts area zero some s =
     let z : area *ℤ pos 0 ≡ pos 0 = omega (arith, ints) in
     let l = s.low in

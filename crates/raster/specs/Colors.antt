@@ -9,8 +9,7 @@ use Rattle.rc_base.specs.declared.window.WindowVertex.{WindowVertex}
 use Rattle.rc_base.specs.declared.window.Fragment.{Fragment}
 use Rattle.raster.specs.declared.color.ColorPlane.{ColorPlane}
 use Rattle.raster.specs.declared.color.ColorRamp.{ColorRamp}
-use Rattle.raster.specs.declared.triangle_setup.TriangleSetup.{TriangleSetup}
-use Rattle.raster.specs.Planes.{IsBytePlane, IsByteRamp, IsByteRise, IsTriangleSetup}
+use Rattle.raster.specs.Planes.{IsBytePlane, IsByteRamp, IsByteRise}
 
 -- the colour of a triangle from pixel (x, y) on
 pub record IsColorPlane (v : List WindowVertex) (x y : ℤ) (p : ColorPlane) : Type 0 where
@@ -35,19 +34,6 @@ pub record IsColorRise (v : List WindowVertex) (x y : ℤ) (k : ℕ) (p : ColorR
 
 abbrev pub HasColor : Rgba → Fragment → Type 0
 HasColor color f = color ≡ f.color
-
--- the colour of the triangle from the setup's pixel on
-abbrev pub IsColorPlaneFrom : List WindowVertex → TriangleSetup → ColorPlane → Type 0
-IsColorPlaneFrom v s p = (x y : ℤ) → IsTriangleSetup v x y s → IsColorPlane v x y p
-
--- what the plane has at the pixel i columns further and j rows up, to be stepped along the row, and up the column
-abbrev pub IsColorRampOf : ColorPlane → ℕ → ℕ → ColorRamp → Type 0
-IsColorRampOf p i j r =
-    (v : List WindowVertex) (x y : ℤ) → IsColorPlane v x y p → IsColorRamp v (x +ℤ pos i) (y +ℤ pos j) (1 + i + j) r
-
-abbrev pub IsColorRiseOf : ColorPlane → ℕ → ℕ → ColorRamp → Type 0
-IsColorRiseOf p i j r =
-    (v : List WindowVertex) (x y : ℤ) → IsColorPlane v x y p → IsColorRise v (x +ℤ pos i) (y +ℤ pos j) (1 + i + j) r
 
 -- the colour of the fragment at the pixel, which the triangle covers, after fewer than 2^12 steps along the row, and up the column
 abbrev pub IsRampColor : ColorRamp → Rgba → Type 0
@@ -85,10 +71,6 @@ has_one_color v = are_one (corner v 0).color (corner v 1).color (corner v 2).col
 -- a depth in the buffer's range
 abbrev pub is_depth : ℤ → Bool
 is_depth z = is_between (pos 0) (pos depth_most) z
-
--- each corner's depth lies in the buffer's range
-abbrev pub are_depths : List WindowVertex → Bool
-are_depths v = is_depth (corner v 0).z && (is_depth (corner v 1).z && is_depth (corner v 2).z)
 
 -- no fragment of the triangle has a depth outside the buffer's range
 abbrev pub HasDepths : List WindowVertex → Type 0

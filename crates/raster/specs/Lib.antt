@@ -2,6 +2,7 @@ pub mod SharedEdge
 pub mod NearEdges
 pub mod Spans
 pub mod Lanes
+pub mod Edges
 pub mod EdgeRamps
 pub mod Weights
 pub mod Between

@@ -77,17 +77,6 @@ pub record IsWordQuotient (n area : ℤ) (k part : ℕ) : Type 0 where
   pub high : (area *ℤ whole) ≤ℤ (pos (2 ^ 96) *ℤ n +ℤ pos (2 ^ 83 * k))
   pub residue : IsWordResidue whole part
 
--- so many times `by` after `at`: where these are quotients, `end` is the quotient of the sum
-abbrev pub IsByteMoved : ℕ → ℕ → ℕ → ℕ → Type 0
-IsByteMoved at by times end =
-    (n area m : ℤ) (k : ℕ) → IsByteQuotient n area k at → IsByteQuotient m area 1 by
-    → IsByteQuotient (n +ℤ pos times *ℤ m) area (k + times) end
-
-abbrev pub IsWordMoved : ℕ → ℕ → ℕ → ℕ → Type 0
-IsWordMoved at by times end =
-    (n area m : ℤ) (k : ℕ) → IsWordQuotient n area k at → IsWordQuotient m area 1 by
-    → IsWordQuotient (n +ℤ pos times *ℤ m) area (k + times) end
-
 -- the floor of each quotient that `part` is, after fewer than 2^12 steps, where 32 bits hold it
 abbrev pub IsWordFloor : ℕ → ℤ → Type 0
 IsWordFloor part z =
@@ -115,39 +104,11 @@ pub record IsByteRise (v : List WindowVertex) (x y : ℤ) (f : WindowVertex → 
   pub at : IsByteQuotient (sum_at v x y f) (triangle_area v) k r.at
   pub up : IsByteQuotient (gain_up v x y f) (triangle_area v) 1 r.gain
 
--- of each attribute of a byte with these values at the corners of the setup's triangle, its plane
-abbrev pub IsBytePlaneOf : TriangleSetup → ℤ → ℤ → ℤ → BytePlane → Type 0
-IsBytePlaneOf s a b c p =
-    (v : List WindowVertex) (x y : ℤ) (f : WindowVertex → ℤ) → IsTriangleSetup v x y s → AreCorners v f a b c
-    → AreFromTo (pos 0) (pos 255) v f → IsBytePlane v x y f p
-
--- the same of a channel, which is of a byte by itself
+-- of each channel with these values at the corners of the setup's triangle, its plane
 abbrev pub IsBytePlaneFor : TriangleSetup → ℕ → ℕ → ℕ → BytePlane → Type 0
 IsBytePlaneFor s a b c p =
     (v : List WindowVertex) (x y : ℤ) (f : WindowVertex → ℤ) → IsTriangleSetup v x y s → AreCorners v f (pos a) (pos b) (pos c)
     → IsBytePlane v x y f p
-
--- the same of any triangle's channel with one value at its corners
-abbrev pub IsFlatBytePlane : ℕ → BytePlane → Type 0
-IsFlatBytePlane a p =
-    (v : List WindowVertex) (x y : ℤ) (f : WindowVertex → ℤ) → AreCorners v f (pos a) (pos a) (pos a) → IsBytePlane v x y f p
-
--- the plane's quotient at the pixel i columns further and j rows up
-abbrev pub IsByteThere : BytePlane → ℕ → ℕ → ℕ → Type 0
-IsByteThere p i j part =
-    (v : List WindowVertex) (x y : ℤ) (f : WindowVertex → ℤ) → IsBytePlane v x y f p
-    → IsByteQuotient (sum_at v (x +ℤ pos i) (y +ℤ pos j) f) (triangle_area v) (1 + i + j) part
-
--- what the plane has there, to be stepped along the row, and up the column
-abbrev pub IsByteRampOf : BytePlane → ℕ → ℕ → ByteRamp → Type 0
-IsByteRampOf p i j r =
-    (v : List WindowVertex) (x y : ℤ) (f : WindowVertex → ℤ) → IsBytePlane v x y f p
-    → IsByteRamp v (x +ℤ pos i) (y +ℤ pos j) f (1 + i + j) r
-
-abbrev pub IsByteRiseOf : BytePlane → ℕ → ℕ → ByteRamp → Type 0
-IsByteRiseOf p i j r =
-    (v : List WindowVertex) (x y : ℤ) (f : WindowVertex → ℤ) → IsBytePlane v x y f p
-    → IsByteRise v (x +ℤ pos i) (y +ℤ pos j) f (1 + i + j) r
 
 -- the attribute at the pixel, which the triangle covers, after fewer than 2^12 steps along the row, and up the column
 abbrev pub IsRampByte : ByteRamp → ℕ → Type 0
@@ -159,17 +120,6 @@ abbrev pub IsRiseByte : ByteRamp → ℕ → Type 0
 IsRiseByte r mean =
     (v : List WindowVertex) (x y : ℤ) (f : WindowVertex → ℤ) (k : ℕ) → IsByteRise v x y f k r → k < 2 ^ 12
     → pos 0 <ℤ triangle_area v → is_inside v x y ≡ true → pos mean ≡ interpolated v x y f
-
--- one step along the row, and one up the column
-abbrev pub IsNextByteRamp : ByteRamp → ByteRamp → Type 0
-IsNextByteRamp old new =
-    (v : List WindowVertex) (x y : ℤ) (f : WindowVertex → ℤ) (k : ℕ) → IsByteRamp v x y f k old
-    → IsByteRamp v (x +ℤ pos 1) y f (k + 1) new
-
-abbrev pub IsNextByteRise : ByteRamp → ByteRamp → Type 0
-IsNextByteRise old new =
-    (v : List WindowVertex) (x y : ℤ) (f : WindowVertex → ℤ) (k : ℕ) → IsByteRise v x y f k old
-    → IsByteRise v x (y +ℤ pos 1) f (k + 1) new
 
 -- ---- attributes of 32 bits
 
@@ -192,28 +142,12 @@ abbrev pub IsWordPlaneOf : TriangleSetup → ℤ → ℤ → ℤ → WordPlane �
 IsWordPlaneOf s a b c p =
     (v : List WindowVertex) (x y : ℤ) (f : WindowVertex → ℤ) → IsTriangleSetup v x y s → AreCorners v f a b c → IsWordPlane v x y f p
 
--- the same of any triangle's attribute with one value at its corners
-abbrev pub IsFlatWordPlane : ℤ → WordPlane → Type 0
-IsFlatWordPlane a p = (v : List WindowVertex) (x y : ℤ) (f : WindowVertex → ℤ) → AreCorners v f a a a → IsWordPlane v x y f p
-
 -- a triangle's attribute from the setup's pixel on
 abbrev pub IsWordPlaneFrom : List WindowVertex → TriangleSetup → (WindowVertex → ℤ) → WordPlane → Type 0
 IsWordPlaneFrom v s f p = (x y : ℤ) → IsTriangleSetup v x y s → IsWordPlane v x y f p
-
--- what the plane has at the pixel i columns further and j rows up
-abbrev pub IsWordRampOf : WordPlane → ℕ → ℕ → WordRamp → Type 0
-IsWordRampOf p i j r =
-    (v : List WindowVertex) (x y : ℤ) (f : WindowVertex → ℤ) → IsWordPlane v x y f p
-    → IsWordRamp v (x +ℤ pos i) (y +ℤ pos j) f (1 + i + j) r
 
 -- the attribute at the pixel, which the triangle covers, after fewer than 2^12 steps
 abbrev pub IsRampWord : WordRamp → ℤ → Type 0
 IsRampWord r mean =
     (v : List WindowVertex) (x y : ℤ) (f : WindowVertex → ℤ) (k : ℕ) → IsWordRamp v x y f k r → k < 2 ^ 12
     → pos 0 <ℤ triangle_area v → is_inside v x y ≡ true → mean ≡ interpolated v x y f
-
--- one step along the row
-abbrev pub IsNextWordRamp : WordRamp → WordRamp → Type 0
-IsNextWordRamp old new =
-    (v : List WindowVertex) (x y : ℤ) (f : WindowVertex → ℤ) (k : ℕ) → IsWordRamp v x y f k old
-    → IsWordRamp v (x +ℤ pos 1) y f (k + 1) new

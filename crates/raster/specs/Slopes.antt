@@ -1,13 +1,21 @@
 -- Where an edge turns in the rows from one on.
-use Rattle.std.specs.Prelude.{◌≡◌, List, ℤ, pos, neg_ℤ, ◌-ℤ◌, ◌*ℤ◌, ◌<ℤ◌}
+use Rattle.std.specs.Prelude.{◌≡◌, ◌^◌, List, ℤ, pos, neg_ℤ, ◌-ℤ◌, ◌*ℤ◌, ◌≤ℤ◌, ◌<ℤ◌}
+use Rattle.rc_base.specs.Numbers.{Within}
 use Rattle.rc_base.specs.Drawing.Cover.{edge_value, keeps_line, centre, corner}
 use Rattle.rc_base.specs.declared.window.WindowVertex.{WindowVertex}
 use Rattle.raster.specs.Columns.{strict_value}
+use Rattle.raster.specs.declared.columns.Places.{Places}
 use Rattle.raster.specs.declared.turns.Level.{Level}
 use Rattle.raster.specs.declared.turns.Turns.{Turns}
 use Rattle.raster.specs.declared.slopes.Slope.{Slope}
 use Rattle.raster.specs.declared.slopes.Slope.TheVariants as slope
 use Rattle.raster.specs.declared.slopes.Slopes.{Slopes}
+
+-- the columns of a row, at most 2^12, and its climb above the lowest row, so that products with a slope fit
+pub record IsRowInReach (up : ℤ) (c : Places) : Type 0 where
+  pub climb : Within (2 ^ 37) up
+  pub order : c.x0 ≤ℤ c.x1
+  pub few : (c.x1 -ℤ c.x0) ≤ℤ pos (2 ^ 12)
 
 -- the edge of value `e` at the first column and row, which gains `dx` a sixteenth up and loses `step` a column, turns where it is 0
 abbrev pub AreTurns : ℤ → ℤ → ℤ → Turns → Type 0

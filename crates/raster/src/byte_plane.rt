@@ -2,7 +2,9 @@
 //!
 //! The mean at a pixel is `n / area`, where `n` is affine in the pixel. It is kept as a number of 64 bits whose top eight are the mean: in
 //! parts of 2^56, rounded up, modulo 2^64. Each step adds at most 2^44 / area parts of error, so below 2^12 steps no mean is changed by it.
-ghost use Rattle.raster.specs.Planes.{IsBytePlaneOf, IsBytePlaneFor, IsFlatBytePlane, IsByteMoved, IsByteThere, IsByteRampOf, IsByteRiseOf, IsRampByte, IsRiseByte, IsNextByteRamp, IsNextByteRise};
+ghost use Rattle.std.specs.Prelude.{ℕ, ◌+◌, List, ℤ, pos, ◌+ℤ◌, ◌*ℤ◌};
+ghost use Rattle.rc_base.specs.declared.window.WindowVertex.{WindowVertex as Point};
+ghost use Rattle.raster.specs.Planes.{AreCorners, IsByteQuotient, IsBytePlane, IsByteRamp, IsByteRise, IsBytePlaneFor, IsRampByte, IsRiseByte};
 
 use crate::edges::{gain, sum};
 use crate::quotients::byte_quotient;
@@ -23,9 +25,10 @@ pub struct ByteRamp {
     gain: u64,
 }
 
-fn byte_plane_by(s: &TriangleSetup, a: i32, b: i32, c: i32) -> BytePlane
-    ensures { IsBytePlaneOf s.now a b c result }
+fn byte_plane_by(s: &TriangleSetup, a: u8, b: u8, c: u8) -> BytePlane
+    ensures { IsBytePlaneFor s.now a b c result }
 {
+    let (a, b, c) = (i32::from(a), i32::from(b), i32::from(c));
     let here = sum(&s.here, a, b, c);
     let right = sum(&s.right, a, b, c);
     let above = sum(&s.above, a, b, c);
@@ -38,7 +41,8 @@ fn byte_plane_by(s: &TriangleSetup, a: i32, b: i32, c: i32) -> BytePlane
 
 // Of a channel that is the same at all corners.
 fn flat_byte_plane(a: u8) -> BytePlane
-    ensures { IsFlatBytePlane a result }
+    ensures { (v : List Point) (x y : ℤ) (f : Point → ℤ)
+        → AreCorners v f (pos a) (pos a) (pos a) → IsBytePlane v x y f result }
 {
     BytePlane {
         at: u64::from(a) * 72_057_594_037_927_936,
@@ -53,39 +57,36 @@ pub(crate) fn byte_plane_of(s: &TriangleSetup, a: u8, b: u8, c: u8) -> BytePlane
     if a == b && b == c {
         return flat_byte_plane(a);
     }
-    byte_plane_by(s, i32::from(a), i32::from(b), i32::from(c))
+    byte_plane_by(s, a, b, c)
 }
 
+// So many times `by` after `at`: of two quotients that of their sum.
 fn byte_moved(at: u64, by: u64, times: u64) -> u64
-    ensures { IsByteMoved at by times result }
+    ensures { (n a m : ℤ) (k : ℕ) → IsByteQuotient n a k at → IsByteQuotient m a 1 by
+        → IsByteQuotient (n +ℤ pos times *ℤ m) a (k + times) result }
 {
     at.wrapping_add(times.wrapping_mul(by))
 }
 
 impl BytePlane {
-    // The number at the pixel `i` columns further and `j` rows up.
-    fn there(&self, i: u64, j: u64) -> u64
-        ensures { IsByteThere self.now i j result }
-    {
-        byte_moved(byte_moved(self.at, self.across, i), self.up, j)
-    }
-
     /// The attribute at the pixel `i` columns further and `j` rows up.
     pub(crate) fn ramp(&self, i: u64, j: u64) -> ByteRamp
-        ensures { IsByteRampOf self.now i j result }
+        ensures { (v : List Point) (x y : ℤ) (f : Point → ℤ) → IsBytePlane v x y f self.now
+            → IsByteRamp v (x +ℤ pos i) (y +ℤ pos j) f (1 + i + j) result }
     {
         ByteRamp {
-            at: self.there(i, j),
+            at: byte_moved(byte_moved(self.at, self.across, i), self.up, j),
             gain: self.across,
         }
     }
 
     /// The same as `ramp`, to be stepped up the column.
     pub(crate) fn rise(&self, i: u64, j: u64) -> ByteRamp
-        ensures { IsByteRiseOf self.now i j result }
+        ensures { (v : List Point) (x y : ℤ) (f : Point → ℤ) → IsBytePlane v x y f self.now
+            → IsByteRise v (x +ℤ pos i) (y +ℤ pos j) f (1 + i + j) result }
     {
         ByteRamp {
-            at: self.there(i, j),
+            at: byte_moved(byte_moved(self.at, self.across, i), self.up, j),
             gain: self.up,
         }
     }
@@ -102,8 +103,10 @@ impl ByteRamp {
 
     /// Goes to the next pixel of the row, or of the column.
     pub(crate) fn advance(&mut self)
-        ensures across { IsNextByteRamp self.old self.new }
-        ensures up { IsNextByteRise self.old self.new }
+        ensures across { (v : List Point) (x y : ℤ) (f : Point → ℤ) (k : ℕ)
+            → IsByteRamp v x y f k self.old → IsByteRamp v (x +ℤ pos 1) y f (k + 1) self.new }
+        ensures up { (v : List Point) (x y : ℤ) (f : Point → ℤ) (k : ℕ)
+            → IsByteRise v x y f k self.old → IsByteRise v x (y +ℤ pos 1) f (k + 1) self.new }
     {
         self.at = self.at.wrapping_add(self.gain);
     }

@@ -1,6 +1,9 @@
 //! The colour of a triangle over the pixels, channel by channel as a plane; and what its corners have in common.
-ghost use Rattle.std.specs.Prelude.{◌≡◌, ◌==◌, ◌&&◌, true, false, MatchOption};
-ghost use Rattle.raster.specs.Colors.{IsColorPlaneFrom, IsColorRampOf, IsColorRiseOf, IsRampColor, IsRiseColor, IsNextColorRamp, IsNextColorRise, AreFlat, HasDepths, are_one, has_one_color, is_depth, are_depths};
+ghost use Rattle.std.specs.Prelude.{◌≡◌, ◌+◌, List, ℤ, pos, ◌+ℤ◌, ◌==◌, ◌&&◌, true, false, MatchOption};
+ghost use Rattle.rc_base.specs.Drawing.Cover.{corner};
+ghost use Rattle.rc_base.specs.declared.window.WindowVertex.{WindowVertex as Point};
+ghost use Rattle.raster.specs.Planes.{IsTriangleSetup};
+ghost use Rattle.raster.specs.Colors.{IsColorPlane, IsColorRamp, IsColorRise, IsRampColor, IsRiseColor, IsNextColorRamp, IsNextColorRise, AreFlat, HasDepths, are_one, has_one_color, is_depth};
 
 use crate::byte_plane::{BytePlane, ByteRamp, byte_plane_of};
 use crate::triangle_setup::TriangleSetup;
@@ -27,7 +30,8 @@ pub struct ColorRamp {
 
 /// The colour of a triangle from the setup's pixel on.
 pub fn color_plane(tri: &WindowTriangle, setup: &TriangleSetup) -> ColorPlane
-    ensures { IsColorPlaneFrom tri.now.v setup.now result }
+    ensures { (x y : ℤ) → IsTriangleSetup tri.now.v x y setup.now
+        → IsColorPlane tri.now.v x y result }
 {
     let [a, b, c] = &tri.v;
     ColorPlane {
@@ -41,7 +45,8 @@ pub fn color_plane(tri: &WindowTriangle, setup: &TriangleSetup) -> ColorPlane
 impl ColorPlane {
     /// The colour at the pixel `i` columns further and `j` rows up.
     pub fn ramp(&self, i: u64, j: u64) -> ColorRamp
-        ensures { IsColorRampOf self.now i j result }
+        ensures { (v : List Point) (x y : ℤ) → IsColorPlane v x y self.now
+            → IsColorRamp v (x +ℤ pos i) (y +ℤ pos j) (1 + i + j) result }
     {
         ColorRamp {
             r: self.r.ramp(i, j),
@@ -53,7 +58,8 @@ impl ColorPlane {
 
     /// The same as `ramp`, to be stepped up the column.
     pub fn rise(&self, i: u64, j: u64) -> ColorRamp
-        ensures { IsColorRiseOf self.now i j result }
+        ensures { (v : List Point) (x y : ℤ) → IsColorPlane v x y self.now
+            → IsColorRise v (x +ℤ pos i) (y +ℤ pos j) (1 + i + j) result }
     {
         ColorRamp {
             r: self.r.rise(i, j),
@@ -123,7 +129,8 @@ fn is_depth(z: i32) -> bool
 
 /// Whether each corner's depth lies in the buffer's range; then each fragment's does.
 pub fn has_depths(tri: &WindowTriangle) -> bool
-    ensures corners { result ≡ are_depths tri.now.v }
+    ensures corners { result ≡ (is_depth (corner tri.now.v 0).z
+        && (is_depth (corner tri.now.v 1).z && is_depth (corner tri.now.v 2).z)) }
     ensures fragments { result ≡ true → HasDepths tri.now.v }
 {
     is_depth(tri.v[0].z) && (is_depth(tri.v[1].z) && is_depth(tri.v[2].z))

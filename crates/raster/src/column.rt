@@ -2,7 +2,7 @@
 //! or end.
 ghost use Rattle.std.specs.Prelude.{◌≡◌, ◌+◌, ◌^◌, true, pos, ◌+ℤ◌, ◌≤ℤ◌, ◌<ℤ◌, IfSome};
 ghost use Rattle.rc_base.specs.Numbers.{Within};
-ghost use Rattle.rc_base.specs.Drawing.Cover.{IsInBounds};
+ghost use Rattle.raster.specs.Edges.{IsEdgeInBounds};
 ghost use Rattle.raster.specs.Columns.{AreKeptRows, strict_value};
 ghost use Rattle.raster.specs.Clamped.{HoldsCover, IsFull};
 ghost use Rattle.raster.specs.Spans.{IsColumnIn};
@@ -43,8 +43,7 @@ pub(crate) fn strict(e: i64, keeps: bool) -> i64
 
 // Of the rows, those whose centre in column x the edge keeps.
 fn kept_rows(a: &WindowVertex, b: &WindowVertex, x: i32, c: Places) -> Places
-    requires from { IsInBounds a.now }
-    requires to { IsInBounds b.now }
+    requires edge { IsEdgeInBounds a.now b.now }
     requires order { c.x0 ≤ℤ c.x1 }
     ensures { AreKeptRows a.now b.now x c result }
 {

@@ -1,7 +1,8 @@
 //! Which pixels a triangle covers: one pixel, and a rectangle row by row.
 ghost use Rattle.std.specs.Prelude.{◌≡◌, ◌^◌};
 ghost use Rattle.rc_base.specs.Numbers.{Within};
-ghost use Rattle.rc_base.specs.Drawing.Cover.{edge_value, keeps_line, passes, is_within_edge, is_inside, IsInBounds};
+ghost use Rattle.rc_base.specs.Drawing.Cover.{keeps_line, passes, is_within_edge, is_inside};
+ghost use Rattle.raster.specs.Edges.{IsEdgeInBounds};
 ghost use Rattle.raster.specs.Runs.{GivesSpansOf};
 
 use crate::rows::{SpanIter, span_iter};
@@ -10,8 +11,7 @@ use rc_base::triangle::WindowTriangle;
 use rc_base::window::{Rect, WindowVertex};
 
 pub(crate) fn keeps(a: &WindowVertex, b: &WindowVertex) -> bool
-    requires from { IsInBounds a.now }
-    requires to { IsInBounds b.now }
+    requires { IsEdgeInBounds a.now b.now }
     ensures { result ≡ keeps_line a.now b.now }
 {
     let dx = delta(b.x, a.x);
@@ -25,26 +25,15 @@ pub(crate) fn passes_edge(e: i64, keeps: bool) -> bool
     e > 0 || (e == 0 && keeps)
 }
 
+// The point is within the edge.
+#[tactic(auto, unfolding(rc_base::specs::Drawing::Cover::is_within_edge))]
 fn is_within(a: &WindowVertex, b: &WindowVertex, px: i64, py: i64) -> bool
-    requires from { IsInBounds a.now }
-    requires to { IsInBounds b.now }
+    requires edge { IsEdgeInBounds a.now b.now }
     requires across { Within (2 ^ 36) px }
     requires up { Within (2 ^ 36) py }
     ensures { result ≡ is_within_edge a.now b.now px py }
 {
-    is_kept(a, b, px, py, edge(a, b, px, py))
-}
-
-// The point, where the edge has this value, is within it.
-#[inline(always)]
-#[tactic(auto, unfolding(rc_base::specs::Drawing::Cover::is_within_edge))]
-fn is_kept(a: &WindowVertex, b: &WindowVertex, px: i64, py: i64, e: i64) -> bool
-    requires from { IsInBounds a.now }
-    requires to { IsInBounds b.now }
-    requires value { e ≡ edge_value a.now b.now px py }
-    ensures { result ≡ is_within_edge a.now b.now px py }
-{
-    let _point = (px, py);
+    let e = edge(a, b, px, py);
     e > 0 || (e == 0 && keeps(a, b))
 }
 

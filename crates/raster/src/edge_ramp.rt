@@ -1,6 +1,7 @@
 //! The values of a triangle's edges along a row of pixels, by one addition each, as Pineda describes it.
 ghost use Rattle.std.specs.Prelude.{◌≡◌, true, pos, ◌+ℤ◌};
-ghost use Rattle.rc_base.specs.Drawing.Cover.{is_inside, is_within_edge, edge_value, centre, IsInBounds};
+ghost use Rattle.rc_base.specs.Drawing.Cover.{is_inside, is_within_edge, edge_value, centre};
+ghost use Rattle.raster.specs.Edges.{IsEdgeInBounds};
 ghost use Rattle.raster.specs.EdgeRamps.{IsEdgeRamp, edge_at, edge_gain};
 ghost use Rattle.raster.specs.Weighed.{IsWeighed};
 
@@ -26,8 +27,7 @@ pub struct EdgeRamp {
 
 #[inline(always)]
 fn value_at(a: &WindowVertex, b: &WindowVertex, x: i32, y: i32) -> i64
-    requires from { IsInBounds a.now }
-    requires to { IsInBounds b.now }
+    requires { IsEdgeInBounds a.now b.now }
     ensures { result ≡ edge_at a.now b.now x y }
 {
     let e = edge(a, b, centre_of(x), centre_of(y));
@@ -49,8 +49,7 @@ fn keeps_centre(at: i64, a: &WindowVertex, b: &WindowVertex, x: i32, y: i32) -> 
 // The edge function itself.
 #[inline(always)]
 fn edge_of(at: i64, a: &WindowVertex, b: &WindowVertex, x: i32, y: i32) -> i64
-    requires from { IsInBounds a.now }
-    requires to { IsInBounds b.now }
+    requires edge { IsEdgeInBounds a.now b.now }
     requires value { at ≡ edge_at a.now b.now x y }
     ensures { result ≡ edge_value a.now b.now (centre x) (centre y) }
 {
@@ -61,8 +60,7 @@ fn edge_of(at: i64, a: &WindowVertex, b: &WindowVertex, x: i32, y: i32) -> i64
 // The value at the next pixel of the row.
 #[inline(always)]
 fn value_after(at: i64, gain: i64, a: &WindowVertex, b: &WindowVertex, x: i32, y: i32) -> i64
-    requires from { IsInBounds a.now }
-    requires to { IsInBounds b.now }
+    requires edge { IsEdgeInBounds a.now b.now }
     requires value { at ≡ edge_at a.now b.now x y }
     requires gain { gain ≡ edge_gain a.now b.now }
     ensures { result ≡ edge_at a.now b.now (x +ℤ pos 1) y }

@@ -4,7 +4,8 @@ ghost use Rattle.std.specs.Int.{w64, bit_at, trailing_zeros, leading_zeros};
 ghost use Rattle.std.specs.Simd.Lanes.{mask_l, Each1};
 ghost use mathlib.Core.Bool.{cond};
 ghost use Rattle.rc_base.specs.Numbers.{Within};
-ghost use Rattle.rc_base.specs.Drawing.Cover.{edge_value, keeps_line, is_within_edge, centre, IsInBounds};
+ghost use Rattle.rc_base.specs.Drawing.Cover.{edge_value, keeps_line, is_within_edge, centre};
+ghost use Rattle.raster.specs.Edges.{IsEdgeInBounds};
 ghost use Rattle.raster.specs.Lanes.{kept_value, ramp_of, edge_lanes, AreLanes, AreCoveredBits};
 ghost use Rattle.raster.specs.Spans.{IsEmptyRow, IsSpanIfAny};
 
@@ -66,8 +67,7 @@ pub(crate) fn kept(e: i64, keeps: bool) -> i64
 
 // From one pixel of a row to the next, an edge's value goes by this.
 pub(crate) fn step_of(a: &WindowVertex, b: &WindowVertex) -> i64
-    requires from { IsInBounds a.now }
-    requires to { IsInBounds b.now }
+    requires { IsEdgeInBounds a.now b.now }
     ensures value { result ≡ neg_ℤ (pos 16 *ℤ (b.now.y -ℤ a.now.y)) }
     ensures small { Within (2 ^ 40) result }
 {
@@ -76,8 +76,7 @@ pub(crate) fn step_of(a: &WindowVertex, b: &WindowVertex) -> i64
 }
 
 fn edge_lanes(a: &WindowVertex, b: &WindowVertex, x: i32, y: i32) -> i64x8
-    requires from { IsInBounds a.now }
-    requires to { IsInBounds b.now }
+    requires { IsEdgeInBounds a.now b.now }
     ensures { result ≡ edge_lanes a.now b.now x y }
 {
     let e = edge(a, b, centre_of(x), centre_of(y));
@@ -119,8 +118,7 @@ fn bits_from_0(v: i64x8) -> u64
 // Of the eight pixels from column `x` of row `y` on, those whose centres the edge keeps, by its lanes in row `y0`.
 #[inline(always)]
 fn edge_bits(a: &WindowVertex, b: &WindowVertex, lanes: i64x8, x: i32, y0: i32, y: i32) -> u64
-    requires from { IsInBounds a.now }
-    requires to { IsInBounds b.now }
+    requires edge { IsEdgeInBounds a.now b.now }
     requires lanes { lanes ≡ edge_lanes a.now b.now x y0 }
     ensures eight { result < 2 ^ 8 }
     ensures each { (k : ℕ) → k < 8 → bit_at result k ≡ cond (is_within_edge a.now b.now (centre (x +ℤ pos k)) (centre y)) 1 0 }
@@ -173,23 +171,6 @@ fn up_to_last(bits: u64, most: u32) -> u32
     (64 - bits.leading_zeros()).min(most)
 }
 
-// From the first to the last covered column of at most eight.
-fn bit_places(tri: &WindowTriangle, bits: u64, y: i32, x0: i32, x1: i32) -> Places
-    requires bits { AreCoveredBits tri.now.v x0 y bits }
-    requires order { x0 ≤ℤ x1 }
-    requires few { x1 ≤ℤ (x0 +ℤ pos 8) }
-    ensures none { result.x1 ≤ℤ result.x0 → IsEmptyRow tri.now.v y x0 x1 }
-    ensures some { IsSpanIfAny tri.now.v y x0 x1 result }
-{
-    let _tri = tri;
-    let _row = y;
-    let most = width(x0, x1);
-    Places {
-        x0: column_after(x0, before_first(bits, most), x1),
-        x1: column_after(x0, up_to_last(bits, most), x1),
-    }
-}
-
 /// The columns from `x0` to below `x1`, at most eight, of row `y` that the triangle covers, by the lanes of row `y0`.
 #[inline(always)]
 pub(crate) fn narrow_places(
@@ -206,5 +187,10 @@ pub(crate) fn narrow_places(
     ensures none { result.x1 ≤ℤ result.x0 → IsEmptyRow tri.now.v y x0 x1 }
     ensures some { IsSpanIfAny tri.now.v y x0 x1 result }
 {
-    bit_places(tri, covered_bits(tri, lanes, x0, y0, y), y, x0, x1)
+    let bits = covered_bits(tri, lanes, x0, y0, y);
+    let most = width(x0, x1);
+    Places {
+        x0: column_after(x0, before_first(bits, most), x1),
+        x1: column_after(x0, up_to_last(bits, most), x1),
+    }
 }

@@ -3,7 +3,7 @@
 //! In parts of 2^96 modulo 2^128, too large by at most 2^83 parts of the area; and of those in parts of 2^56 modulo 2^64.
 ghost use Rattle.std.specs.Prelude.{◌≡◌, ◌^◌, ◌*◌, ℤ, pos, neg_ℤ, ◌+ℤ◌, ◌*ℤ◌, ◌≤ℤ◌, ◌<ℤ◌, int_le, true};
 ghost use Rattle.rc_base.specs.Numbers.{Within, floor_quotient, is_within};
-ghost use Rattle.raster.specs.Planes.{IsWordResidue, IsByteQuotient, IsWordQuotient};
+ghost use Rattle.raster.specs.Planes.{IsFromTo, IsWordResidue, IsByteQuotient, IsWordQuotient};
 
 use crate::triangle_setup::TriangleSetup;
 use fixed_math::floor_div;
@@ -59,58 +59,39 @@ fn wide_quotient(n: i128, area: i128) -> u128
 }
 
 // The product with the reciprocal is off by no more than a part's share.
-fn is_precise(m: i64, area: i64) -> bool
-    requires low { pos 0 ≤ℤ m }
-    requires most { m ≤ℤ pos (2 ^ 62) }
-    requires some { pos 0 <ℤ area }
-    requires small { area ≤ℤ pos (2 ^ 43) }
-    ensures { result ≡ int_le (m *ℤ area) (pos (2 ^ 83)) }
+fn is_precise(m: i64, s: &TriangleSetup) -> bool
+    requires { IsFromTo (pos 0) (pos (2 ^ 62)) m }
+    ensures { result ≡ int_le (m *ℤ s.now.area) (pos (2 ^ 83)) }
 {
     // No area is above 2^43.
     if m <= 1_099_511_627_776 {
         return true;
     }
-    i128::from(m) * i128::from(area) <= 9_671_406_556_917_033_397_649_408
-}
-
-fn times_reciprocal(m: i64, s: &TriangleSetup) -> u128
-    requires low { pos 0 ≤ℤ m }
-    requires precise { int_le (m *ℤ s.now.area) (pos (2 ^ 83)) ≡ true }
-    ensures { IsWordQuotient m s.now.area 1 result }
-{
-    u128::from(m as u64).wrapping_mul(s.reciprocal)
-}
-
-// The same of -m: the reciprocal is rounded down, so that the product is rounded up.
-fn minus_times_reciprocal(m: i64, s: &TriangleSetup) -> u128
-    requires low { pos 0 ≤ℤ m }
-    requires precise { int_le (m *ℤ s.now.area) (pos (2 ^ 83)) ≡ true }
-    ensures { IsWordQuotient (neg_ℤ m) s.now.area 1 result }
-{
-    let parts = u128::from(m as u64).wrapping_mul(s.reciprocal - 1);
-    0_u128.wrapping_sub(parts)
+    i128::from(m) * i128::from(s.area) <= 9_671_406_556_917_033_397_649_408
 }
 
 fn quotient_above(m: i64, s: &TriangleSetup) -> u128
-    requires low { pos 0 ≤ℤ m }
-    requires most { m ≤ℤ pos (2 ^ 62) }
+    requires { IsFromTo (pos 0) (pos (2 ^ 62)) m }
     ensures { IsWordQuotient m s.now.area 1 result }
 {
-    if !is_precise(m, s.area) {
+    if !is_precise(m, s) {
         return wide_quotient(i128::from(m), i128::from(s.area));
     }
-    times_reciprocal(m, s)
+    let count = u128::from(m as u64);
+    count.wrapping_mul(s.reciprocal)
 }
 
+// The same of -m: the reciprocal is rounded down, so that the product is rounded up.
 fn quotient_below(m: i64, s: &TriangleSetup) -> u128
-    requires low { pos 0 ≤ℤ m }
-    requires most { m ≤ℤ pos (2 ^ 62) }
+    requires { IsFromTo (pos 0) (pos (2 ^ 62)) m }
     ensures { IsWordQuotient (neg_ℤ m) s.now.area 1 result }
 {
-    if !is_precise(m, s.area) {
+    if !is_precise(m, s) {
         return wide_quotient(i128::from(-m), i128::from(s.area));
     }
-    minus_times_reciprocal(m, s)
+    let count = u128::from(m as u64);
+    let parts = count.wrapping_mul(s.reciprocal - 1);
+    0_u128.wrapping_sub(parts)
 }
 
 fn is_short(n: i128) -> bool

@@ -1,7 +1,7 @@
 //! What an edge's value gains from a row to another.
 ghost use Rattle.std.specs.Prelude.{◌≡◌, ◌^◌, pos, ◌-ℤ◌, ◌*ℤ◌};
 ghost use Rattle.rc_base.specs.Numbers.{Within};
-ghost use Rattle.rc_base.specs.Drawing.Cover.{IsInBounds};
+ghost use Rattle.raster.specs.Edges.{IsEdgeInBounds};
 
 use fixed_math::delta;
 use rc_base::window::WindowVertex;
@@ -40,8 +40,7 @@ pub(crate) fn climb(y0: i32, y: i32) -> i64
 
 /// What an edge's value gains by a climb.
 pub(crate) fn rise(a: &WindowVertex, b: &WindowVertex, climb: i64) -> i64
-    requires from { IsInBounds a.now }
-    requires to { IsInBounds b.now }
+    requires edge { IsEdgeInBounds a.now b.now }
     requires climb { Within (2 ^ 37) climb }
     ensures value { result ≡ (b.now.x -ℤ a.now.x) *ℤ climb }
     ensures small { Within (2 ^ 58) result }

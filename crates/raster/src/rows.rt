@@ -2,7 +2,7 @@
 ghost use Rattle.std.specs.Prelude.{◌≡◌, true, ◌≤ℤ◌, ◌<ℤ◌, MatchOption, IfSome};
 ghost use Rattle.raster.specs.Spans.{IsEmptyRow, IsRowSpan, AreEmptyRows, IsNextSpan, GivesSpan, IsOnlyColumn};
 ghost use Rattle.raster.specs.Clamped.{HoldsCover, IsFull};
-ghost use Rattle.raster.specs.Ways.{IsWay};
+ghost use Rattle.raster.specs.Ways.{IsPrepared, IsWay};
 ghost use Rattle.std.specs.Iterator.{at_most};
 ghost use Rattle.std.specs.Int.{int_gap};
 
@@ -47,28 +47,9 @@ fn full_span(tri: &WindowTriangle, part: Rect, y: i32) -> Option<Span>
     })
 }
 
-// The covered pixels of a row of the part that was cut.
-fn span_of(tri: &WindowTriangle, cut: Cut, way: &Way, y: i32) -> Option<Span>
-    requires way { IsWay tri.now.v cut.part way.now }
-    requires full { cut.is_full ≡ true → IsFull tri.now.v cut.part }
-    requires some { cut.part.x0 <ℤ cut.part.x1 }
-    requires low { cut.part.y0 ≤ℤ y }
-    requires high { y <ℤ cut.part.y1 }
-    ensures { MatchOption result
-        (IsEmptyRow tri.now.v y cut.part.x0 cut.part.x1)
-        (λ s. IsRowSpan tri.now.v y cut.part.x0 cut.part.x1 s) }
-{
-    if cut.is_full {
-        return full_span(tri, cut.part, y);
-    }
-    row_span(tri, cut.part, way, y)
-}
-
 // The covered pixels of a row of the rectangle, which all stand in its part.
 fn span_in(tri: &WindowTriangle, rect: Rect, cut: Cut, way: &Way, y: i32) -> Option<Span>
-    requires part { HoldsCover tri.now.v rect cut.part }
-    requires way { IsWay tri.now.v cut.part way.now }
-    requires full { cut.is_full ≡ true → IsFull tri.now.v cut.part }
+    requires cut { IsPrepared tri.now.v rect cut way.now }
     requires some { cut.part.x0 <ℤ cut.part.x1 }
     requires low { cut.part.y0 ≤ℤ y }
     requires high { y <ℤ cut.part.y1 }
@@ -76,14 +57,16 @@ fn span_in(tri: &WindowTriangle, rect: Rect, cut: Cut, way: &Way, y: i32) -> Opt
         (IsEmptyRow tri.now.v y rect.x0 rect.x1)
         (λ s. IsRowSpan tri.now.v y rect.x0 rect.x1 s) }
 {
-    span_of(tri, cut, way, y)
+    let _rect = rect;
+    if cut.is_full {
+        return full_span(tri, cut.part, y);
+    }
+    row_span(tri, cut.part, way, y)
 }
 
 // The span of the first row from `from` on that has a covered pixel.
 fn next_span(tri: &WindowTriangle, rect: Rect, cut: Cut, way: &Way, from: i32) -> Option<Span>
-    requires part { HoldsCover tri.now.v rect cut.part }
-    requires way { IsWay tri.now.v cut.part way.now }
-    requires full { cut.is_full ≡ true → IsFull tri.now.v cut.part }
+    requires { IsPrepared tri.now.v rect cut way.now }
     ensures { MatchOption result
         (AreEmptyRows tri.now.v rect from rect.y1)
         (λ s. IsNextSpan tri.now.v rect from s) }

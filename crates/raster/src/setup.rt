@@ -23,7 +23,7 @@ fn next_centre(p: i64, x: i32) -> i64
 // 1 / area in parts of 2^96, rounded up.
 fn reciprocal(area: i64) -> u128
     requires { pos 0 <ℤ area }
-    ensures { IsReciprocal area result }
+    ensures { IsReciprocal 96 area result }
 {
     79_228_162_514_264_337_593_543_950_336 / (area as u128) + 1
 }

@@ -1,11 +1,11 @@
 //! The columns of a row that a triangle covers, by the inverses of its edges' slopes: a product an edge and row in place of a division.
-ghost use Rattle.std.specs.Prelude.{◌≡◌, ◌^◌, ℤ, pos, neg_ℤ, ◌+ℤ◌, ◌-ℤ◌, ◌*ℤ◌, ◌≤ℤ◌, ◌<ℤ◌};
+ghost use Rattle.std.specs.Prelude.{◌≡◌, ◌^◌, ℤ, pos, ◌+ℤ◌, ◌-ℤ◌, ◌*ℤ◌, ◌≤ℤ◌, ◌<ℤ◌};
 ghost use Rattle.std.specs.Int.{int_min, int_max};
 ghost use Rattle.rc_base.specs.Numbers.{Within};
-ghost use Rattle.rc_base.specs.Drawing.Cover.{IsInBounds};
 ghost use Rattle.raster.specs.Columns.{IsTurn, AreKept};
-ghost use Rattle.raster.specs.Reciprocal.{IsInverse};
-ghost use Rattle.raster.specs.Slopes.{IsSlope, AreSlopes};
+ghost use Rattle.raster.specs.Edges.{IsEdgeInBounds};
+ghost use Rattle.raster.specs.Reciprocal.{IsReciprocal};
+ghost use Rattle.raster.specs.Slopes.{IsRowInReach, IsSlope, AreSlopes};
 ghost use Rattle.raster.specs.Spans.{IsEmptyRow, IsSpanIfAny};
 
 use crate::column::strict;
@@ -36,43 +36,13 @@ pub(crate) struct Slopes {
 // 1 / step in parts of 2^64, rounded up.
 fn inverse(step: i64) -> u64
     requires { pos 1 <ℤ step }
-    ensures { IsInverse step result }
+    ensures { IsReciprocal 64 step result }
 {
     18_446_744_073_709_551_615 / (step as u64) + 1
 }
 
-fn turns(first: i64, gain: i64, step: i64) -> Turns
-    requires bounded { Within (2 ^ 61) first }
-    requires slow { Within (2 ^ 21) gain }
-    requires some { pos 1 <ℤ step }
-    requires small { step ≤ℤ pos (2 ^ 25) }
-    ensures first { result.first ≡ first }
-    ensures gain { result.gain ≡ gain }
-    ensures step { result.step ≡ step }
-{
-    Turns {
-        first,
-        gain,
-        step,
-        inverse: inverse(step),
-    }
-}
-
-// Of an edge that goes down.
-fn left_slope(e: i64, dx: i64, dy: i64) -> Turns
-    requires e { Within (2 ^ 60) e }
-    requires dx { Within (2 ^ 21) dx }
-    requires dy { Within (2 ^ 21) dy }
-    requires down { dy <ℤ pos 0 }
-    ensures first { result.first ≡ neg_ℤ e -ℤ pos 1 }
-    ensures gain { result.gain ≡ neg_ℤ dx }
-    ensures step { result.step ≡ pos 16 *ℤ neg_ℤ dy }
-{
-    turns(minus_1(negated(e)), negated(dx), times_16(negated(dy)))
-}
-
-// Of an edge that goes up.
-fn right_slope(e: i64, dx: i64, dy: i64) -> Turns
+// Of an edge that goes up, or that goes down and is taken the other way.
+fn turns(e: i64, dx: i64, dy: i64) -> Turns
     requires e { Within (2 ^ 60) e }
     requires dx { Within (2 ^ 21) dx }
     requires dy { Within (2 ^ 21) dy }
@@ -81,7 +51,13 @@ fn right_slope(e: i64, dx: i64, dy: i64) -> Turns
     ensures gain { result.gain ≡ dx }
     ensures step { result.step ≡ pos 16 *ℤ dy }
 {
-    turns(minus_1(e), dx, times_16(dy))
+    let step = times_16(dy);
+    Turns {
+        first: minus_1(e),
+        gain: dx,
+        step,
+        inverse: inverse(step),
+    }
 }
 
 fn level(first: i64, gain: i64) -> Level
@@ -95,18 +71,17 @@ fn level(first: i64, gain: i64) -> Level
 
 // Of the rows from `y0` on, by their values in column `x0`.
 fn slope_at(a: &WindowVertex, b: &WindowVertex, x0: i32, y0: i32) -> Slope
-    requires from { IsInBounds a.now }
-    requires to { IsInBounds b.now }
+    requires { IsEdgeInBounds a.now b.now }
     ensures { IsSlope a.now b.now x0 y0 result }
 {
     let dx = delta(b.x, a.x);
     let dy = delta(b.y, a.y);
     let e = edge(a, b, centre_of(x0), centre_of(y0));
     if dy < 0 {
-        return Slope::Left(left_slope(e, dx, dy));
+        return Slope::Left(turns(negated(e), negated(dx), negated(dy)));
     }
     if dy > 0 {
-        return Slope::Right(right_slope(e, dx, dy));
+        return Slope::Right(turns(e, dx, dy));
     }
     Slope::Level(level(strict(e, keeps(a, b)), dx))
 }
@@ -179,9 +154,7 @@ fn column_after(count: u64, c: Places) -> i32
 // How many columns come before the turn in the row that is a climb above the lowest.
 #[inline(always)]
 fn columns_before(t: &Turns, climb: i64, c: Places) -> u64
-    requires climb { Within (2 ^ 37) climb }
-    requires order { c.x0 ≤ℤ c.x1 }
-    requires few { (c.x1 -ℤ c.x0) ≤ℤ pos (2 ^ 12) }
+    requires { IsRowInReach climb c }
     ensures { IsTurn (t.now.first +ℤ t.now.gain *ℤ climb) t.now.step c.x0 c.x1 (c.x0 +ℤ pos result) }
 {
     let most = lifted(t.first, product(t.gain, climb));
@@ -191,9 +164,7 @@ fn columns_before(t: &Turns, climb: i64, c: Places) -> u64
 // The turn in that row.
 #[inline(always)]
 fn turn_at(t: &Turns, climb: i64, c: Places) -> i32
-    requires climb { Within (2 ^ 37) climb }
-    requires order { c.x0 ≤ℤ c.x1 }
-    requires few { (c.x1 -ℤ c.x0) ≤ℤ pos (2 ^ 12) }
+    requires { IsRowInReach climb c }
     ensures { IsTurn (t.now.first +ℤ t.now.gain *ℤ climb) t.now.step c.x0 c.x1 result }
 {
     column_after(columns_before(t, climb, c), c)

@@ -14,5 +14,5 @@ pub struct TriangleSetup {
     pub(crate) reciprocal: u128,
     ghost some: { pos 0 <ℤ area },
     ghost small: { area ≤ℤ pos (2 ^ 43) },
-    ghost inverse: { IsReciprocal area reciprocal },
+    ghost inverse: { IsReciprocal 96 area reciprocal },
 }

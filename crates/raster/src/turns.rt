@@ -1,7 +1,7 @@
 //! Where a sloped edge turns in the rows of a part.
 ghost use Rattle.std.specs.Prelude.{◌^◌, pos, ◌≤ℤ◌, ◌<ℤ◌};
 ghost use Rattle.rc_base.specs.Numbers.{Within};
-ghost use Rattle.raster.specs.Reciprocal.{IsInverse};
+ghost use Rattle.raster.specs.Reciprocal.{IsReciprocal};
 
 /// An edge's turns in the rows of a part. Of the part's lowest row the columns before the turn are those whose distance from its first
 /// column, times `step`, is at most `first`; a sixteenth of a pixel further up `first` is more by `gain`.
@@ -15,7 +15,7 @@ pub(crate) struct Turns {
     ghost slow: { Within (2 ^ 21) gain },
     ghost some: { pos 0 <ℤ step },
     ghost small: { step ≤ℤ pos (2 ^ 25) },
-    ghost inverted: { IsInverse step inverse },
+    ghost inverted: { IsReciprocal 64 step inverse },
 }
 
 /// A level edge in the rows of a part: of the lowest row it keeps all columns where `first` is above 0, and none else; a sixteenth of a pixel

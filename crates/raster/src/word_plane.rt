@@ -2,8 +2,9 @@
 //!
 //! The mean at a pixel is `n / area`, where `n` is affine in the pixel. It is kept as a number of 128 bits whose top 32 are the mean: in
 //! parts of 2^96, rounded up, modulo 2^128. Each step adds at most 2^83 / area parts of error, so below 2^12 steps no mean is changed by it.
-ghost use Rattle.rc_base.specs.declared.window.WindowVertex.{WindowVertex as AnyVertex};
-ghost use Rattle.raster.specs.Planes.{IsFlatWordPlane, IsWordPlaneOf, IsWordPlaneFrom, IsWordMoved, IsWordFloor, IsWordRampOf, IsRampWord, IsNextWordRamp};
+ghost use Rattle.std.specs.Prelude.{ℕ, ◌+◌, List, ℤ, pos, ◌+ℤ◌, ◌*ℤ◌};
+ghost use Rattle.rc_base.specs.declared.window.WindowVertex.{WindowVertex as Point};
+ghost use Rattle.raster.specs.Planes.{AreCorners, IsWordQuotient, IsWordPlane, IsWordRamp, IsWordPlaneOf, IsWordPlaneFrom, IsWordFloor, IsRampWord};
 
 use crate::edges::{gain, sum};
 use crate::quotients::{wide_high_parts, word_quotient};
@@ -27,7 +28,8 @@ pub struct WordRamp {
 
 // Of an attribute that is the same at all corners.
 fn flat_word_plane(a: i32) -> WordPlane
-    ensures { IsFlatWordPlane a result }
+    ensures { (v : List Point) (x y : ℤ) (f : Point → ℤ) → AreCorners v f a a a
+        → IsWordPlane v x y f result }
 {
     WordPlane {
         at: wide_high_parts(i128::from(a)),
@@ -58,8 +60,10 @@ fn word_plane_of(s: &TriangleSetup, a: i32, b: i32, c: i32) -> WordPlane
     word_plane_by(s, a, b, c)
 }
 
+// So many times `by` after `at`: of two quotients that of their sum.
 fn word_moved(at: u128, by: u128, times: u64) -> u128
-    ensures { IsWordMoved at by times result }
+    ensures { (n a m : ℤ) (k : ℕ) → IsWordQuotient n a k at → IsWordQuotient m a 1 by
+        → IsWordQuotient (n +ℤ pos times *ℤ m) a (k + times) result }
 {
     at.wrapping_add(u128::from(times).wrapping_mul(by))
 }
@@ -75,7 +79,8 @@ fn top(at: u128) -> i32
 impl WordPlane {
     /// The attribute at the pixel `i` columns further and `j` rows up.
     pub fn ramp(&self, i: u64, j: u64) -> WordRamp
-        ensures { IsWordRampOf self.now i j result }
+        ensures { (v : List Point) (x y : ℤ) (f : Point → ℤ) → IsWordPlane v x y f self.now
+            → IsWordRamp v (x +ℤ pos i) (y +ℤ pos j) f (1 + i + j) result }
     {
         WordRamp {
             at: word_moved(word_moved(self.at, self.across, i), self.up, j),
@@ -95,7 +100,8 @@ impl WordRamp {
 
     /// Goes to the next pixel of the row.
     pub fn advance(&mut self)
-        ensures { IsNextWordRamp self.old self.new }
+        ensures { (v : List Point) (x y : ℤ) (f : Point → ℤ) (k : ℕ)
+            → IsWordRamp v x y f k self.old → IsWordRamp v (x +ℤ pos 1) y f (k + 1) self.new }
     {
         self.at = self.at.wrapping_add(self.across);
     }
@@ -103,15 +109,15 @@ impl WordRamp {
 
 /// The depth of a triangle from the setup's pixel on.
 pub fn depth_plane(tri: &WindowTriangle, setup: &TriangleSetup) -> WordPlane
-    ensures { IsWordPlaneFrom tri.now.v setup.now (λ (c : AnyVertex). c.z) result }
+    ensures { IsWordPlaneFrom tri.now.v setup.now (λ (c : Point). c.z) result }
 {
     word_plane_of(setup, tri.v[0].z, tri.v[1].z, tri.v[2].z)
 }
 
 /// The texture coordinates s and t of a triangle from the setup's pixel on.
 pub fn coordinate_planes(tri: &WindowTriangle, setup: &TriangleSetup) -> (WordPlane, WordPlane)
-    ensures s { IsWordPlaneFrom tri.now.v setup.now (λ (c : AnyVertex). c.s) result.0 }
-    ensures t { IsWordPlaneFrom tri.now.v setup.now (λ (c : AnyVertex). c.t) result.1 }
+    ensures s { IsWordPlaneFrom tri.now.v setup.now (λ (c : Point). c.s) result.0 }
+    ensures t { IsWordPlaneFrom tri.now.v setup.now (λ (c : Point). c.t) result.1 }
 {
     let [a, b, c] = &tri.v;
     (

@@ -133,8 +133,8 @@ abbrev pub IsClientIn : Batch → ℕ → Type 0
 IsClientIn b client = client < length b.scene.now.streams
 
 -- there is room for a layer of each frame of the batch
-abbrev pub HasRoom : Batch → Player → Type 0
-HasRoom b p = b.end ≤ b.first + length p.layers.items
+abbrev pub HasLayerRoom : Batch → Player → Type 0
+HasLayerRoom b p = b.end ≤ b.first + length p.layers.items
 
 -- none of a client's first layers has more active pixels
 abbrev pub AreAtMost : ℕ → ℕ → Player → Type 0

@@ -1,7 +1,7 @@
 //! A client that draws its frames alone.
 ghost use Rattle.std.specs.Prelude.{◌≡◌, ℕ, ◌+◌, ◌<◌, ◌≤◌, length, true, IfOk, OnOk};
 ghost use Rattle.rc_base.specs.Orders.Sync.{client_count, client_row};
-ghost use Rattle.sort_last.specs.Players.{start_of, AreNamesOf, IsInBatch, HasDrawn, IsClientIn, HasPlayed, StartsBatch, EndsBatch, HasRoom};
+ghost use Rattle.sort_last.specs.Players.{start_of, AreNamesOf, IsInBatch, HasDrawn, IsClientIn, HasPlayed, StartsBatch, EndsBatch, HasLayerRoom};
 ghost use Rattle.sort_last.specs.Players.{HaveDrawn, HoldEach, HaveLayers, AreDrawn, AreWhole, AreAtMost, AreAllAtMost};
 
 use crate::apart::{Batch, ClientNames};
@@ -90,7 +90,7 @@ impl Player {
     ) -> Result<(), OutOfMemory>
         requires before { StartsBatch batch.now client self.old }
         ensures after { OnOk result (StartsBatch batch.now client self.new) }
-        ensures room { OnOk result (HasRoom batch.now self.new) }
+        ensures room { OnOk result (HasLayerRoom batch.now self.new) }
     {
         let _client = client;
         for _ in self.layers.len()..batch.end - batch.first {
@@ -108,9 +108,9 @@ impl Player {
     ) -> Result<(), OutOfMemory>
         requires client { IsClientIn batch.now client }
         requires frame { IsInBatch batch.now frame }
-        requires room { HasRoom batch.now self.old }
+        requires room { HasLayerRoom batch.now self.old }
         requires before { HasPlayed batch.now client frame self.old }
-        ensures room { OnOk result (HasRoom batch.now self.new) }
+        ensures room { OnOk result (HasLayerRoom batch.now self.new) }
         ensures after { OnOk result (HasPlayed batch.now client (frame + 1) self.new) }
     {
         let names = frame_names(batch, client, frame);

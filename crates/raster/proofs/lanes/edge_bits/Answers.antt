@@ -9,8 +9,8 @@ use Rattle.raster.proofs.lanes.edge_bits.Goals as goal
 
 pub raised-requires-clause-small : goal.raised-requires-clause-small
 raised-requires-clause-small c =
-    let l = lanes_back c.args.a.now c.args.b.now c.args.x c.args.y0 c.args.lanes c.ranges.x c.ranges.y0 c.requires.from c.requires.to c.requires.lanes in
-    subst (λ (l : List ℤ). Each1 (λ e. Within (2 ^ 62) e) l) (sym l) (lanes_small c.args.a.now c.args.b.now c.args.x c.args.y0 c.ranges.x c.ranges.y0 c.requires.from c.requires.to)
+    let l = lanes_back c.args.a.now c.args.b.now c.args.x c.args.y0 c.args.lanes c.ranges.x c.ranges.y0 c.requires.edge.from c.requires.edge.to c.requires.lanes in
+    subst (λ (l : List ℤ). Each1 (λ e. Within (2 ^ 62) e) l) (sym l) (lanes_small c.args.a.now c.args.b.now c.args.x c.args.y0 c.ranges.x c.ranges.y0 c.requires.edge.from c.requires.edge.to)
 
 pub bits_from_0-requires-clause-fit : goal.bits_from_0-requires-clause-fit
 bits_from_0-requires-clause-fit c = fits_all c.raised.result
@@ -30,8 +30,8 @@ bits_are : (c : goal.After-bits_from_0)
 bits_are c =
     let f : FitsSigned w64 c.rise.result = record { sfits = c.rise.type_inv } in
     let w : Within (2 ^ 60) (up c) = rw (to_z-of_z f) (within_more c.rise.result (2 ^ 58) (2 ^ 60) (omega arith) c.rise.ensures.small) in
-    let l = lanes_back c.args.a.now c.args.b.now c.args.x c.args.y0 c.args.lanes c.ranges.x c.ranges.y0 c.requires.from c.requires.to c.requires.lanes in
-    let r = raised_back c.args.a.now c.args.b.now c.args.x c.args.y0 (up c) _ c.raised.result c.ranges.x c.ranges.y0 c.requires.from c.requires.to w l c.raised.ensures in
+    let l = lanes_back c.args.a.now c.args.b.now c.args.x c.args.y0 c.args.lanes c.ranges.x c.ranges.y0 c.requires.edge.from c.requires.edge.to c.requires.lanes in
+    let r = raised_back c.args.a.now c.args.b.now c.args.x c.args.y0 (up c) _ c.raised.result c.ranges.x c.ranges.y0 c.requires.edge.from c.requires.edge.to w l c.raised.ensures in
     c.bits_from_0.ensures ∙ ap (λ v. mask_l (map (λ e. int_le (pos 0) e) v)) r
 
 pub returns-clause-eight : goal.returns-clause-eight

@@ -1,7 +1,0 @@
-use Rattle.std.proofs.Common.{refl}
-use Rattle.raster.proofs.ByteQuotients.{byte_quotient_same}
-use Rattle.raster.proofs.Affine.{sum_there}
-use Rattle.raster.proofs.byte_plane.BytePlane.there.Goals as goal
-
-pub returns : goal.returns
-returns c v x y f p = byte_quotient_same _ _ _ _ _ _ (sum_there v x y c.args.i c.args.j f) refl (c.byte_moved-2.ensures _ _ _ _ (c.byte_moved.ensures _ _ _ _ p.at p.across) p.up)
