@@ -8,7 +8,7 @@ use Rattle.rc_base.specs.Drawing.Window.{depth_most}
 use Rattle.rc_base.specs.declared.window.Pixel.{Pixel}
 use Rattle.rc_base.specs.declared.window.Rect.{Rect}
 use Rattle.scene_lemmas.proofs.Triangles.{nearer_is_first}
-use Rattle.draw_device.specs.Active.{AreCopied, IsLayer}
+use Rattle.draw_device.specs.Active.{AreCopied, IsLayerOf}
 use Rattle.draw_device.specs.Beside.{IsBeside, IsFarBeside}
 use Rattle.draw_device.specs.Devices.{DeviceView, pixel_index, pixel_of, rect_size}
 use Rattle.draw_device.specs.Grids.{view_of}
@@ -82,7 +82,7 @@ view_far g pixels view run seen below above x y inside beside =
 
 -- the pixels of a run, beside which nothing was drawn, are a layer
 pub view_layer : (g : Grid) (view : DeviceView) (run : PixelRun) (a : ActivePixels) → view_of g ≡ view → length g.colors.items ≡ rect_size view.rect
-    → AreCopied g run a → IsFarBeside run view → IsLayer view.rect (pixel_of view) a
+    → AreCopied g run a → IsFarBeside run view → IsLayerOf view.rect (pixel_of view) a
 unfolding pixel_of
 view_layer g view run a seen size copied far = record {
   fit = record { deep = copied.fit.deep; room = omega (arith, copied.fit.room, size) };

@@ -14,7 +14,7 @@ use Rattle.fragment_ops.specs.DepthTests.{pixel}
 use Rattle.raster.specs.Colors.{AreFlat, HasDepths}
 use Rattle.draw_device.specs.Pixels.{pixel_at, color_at, depth_at, flag_at, pixels_of}
 use Rattle.draw_device.specs.Shapes.{fragment_pixel, IsRunStepped}
-use Rattle.draw_device.specs.Loops.{run_fragment, AreCovered, IsCoveredRow, IsReached, IsRunCovered, IsRunDrawn, IsColorStepped, IsVisibleFrom, IsColorRun, IsDepthRun, StoresColor, AreWritten, AreFlags}
+use Rattle.draw_device.specs.Loops.{run_fragment, AreCovered, IsCoveredRow, IsPlaceInReach, IsRunCovered, IsRunDrawn, IsColorStepped, IsVisibleFrom, IsColorRun, IsDepthRun, StoresColor, AreWritten, AreFlags}
 use Rattle.draw_device.specs.Plans.{AreStored, AreUntested}
 use Rattle.draw_device.proofs.Lists.{length_pixels, pixel_in, set_pixel}
 use Rattle.draw_device.proofs.Steps.{alone_step, stored_step, chosen_step}
@@ -149,7 +149,7 @@ run_behind f left row from seen to old new l h d = record {
 -- ---- a run without what is hidden at its beginning
 
 -- each column of a run that a triangle covers
-pub reached : (v : List WindowVertex) (r : Run) (k : ℕ) → IsRunCovered v r → r.from ≤ k → k < r.to → IsReached v r k
+pub reached : (v : List WindowVertex) (r : Run) (k : ℕ) → IsRunCovered v r → r.from ≤ k → k < r.to → IsPlaceInReach v r k
 reached v r k covered low high = let few = r.few in record { inside = covered k low high; few = omega arith }
 
 pub row_from : (v : List WindowVertex) (r seen : Run) (cs : List Rgba) (ds : List ℕ) → seen.left ≡ r.left → seen.row ≡ r.row → seen.to ≡ r.to → r.from ≤ seen.from

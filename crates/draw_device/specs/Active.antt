@@ -37,7 +37,7 @@ pub record AreCopied (g : Grid) (run : PixelRun) (a : ActivePixels) : Type 0 whe
   pub each : EachIn run.from run.to (λ k. active_at a k ≡ grid_pixel g k)
 
 -- they are a layer over a rectangle whose pixels these are: where none of them stands the layer is as far as can be
-pub record IsLayer (r : Rect) (picture : ℤ → ℤ → Pixel) (a : ActivePixels) : Type 0 where
+pub record IsLayerOf (r : Rect) (picture : ℤ → ℤ → Pixel) (a : ActivePixels) : Type 0 where
   pub fit : FitAmong (rect_size r) a
   pub among : (x y : ℤ) → is_in_rect r x y ≡ true → a.from ≤ pixel_index r x y → pixel_index r x y < a.from + length a.colors.items
       → active_at a (pixel_index r x y) ≡ picture x y

@@ -60,7 +60,7 @@ pub record IsRowWith (from to : ℕ) (colors : List Rgba) (depths : List ℕ) : 
   pub alike : length depths ≡ length colors
 
 -- the triangle covers column k of the run's row, and no step of a plane that leads there is one too many
-pub record IsReached (v : List WindowVertex) (r : Run) (k : ℕ) : Type 0 where
+pub record IsPlaceInReach (v : List WindowVertex) (r : Run) (k : ℕ) : Type 0 where
   pub inside : is_inside v (pos (r.left + k)) (pos r.row) ≡ true
   pub few : 1 + k + r.up < 2 ^ 12
 

@@ -7,7 +7,7 @@ ghost use Rattle.rc_base.specs.Drawing.PixelStep.{effect_step};
 ghost use Rattle.rc_base.specs.Drawing.Serial.{blank_pixel};
 ghost use Rattle.rc_base.specs.declared.state.Effect.TheVariants as eff;
 ghost use Rattle.rc_base.specs.declared.window.Pixel.{Pixel};
-ghost use Rattle.draw_device.specs.Active.{FitAmong, IsLayer};
+ghost use Rattle.draw_device.specs.Active.{FitAmong, IsLayerOf};
 ghost use Rattle.draw_device.specs.Conditions.{IsDrawable, IsClearable, TakesBlock, sampled_of};
 ghost use Rattle.draw_device.specs.Devices.{AreNear, IsDeviceRect, IsBlankIn, EachTakes, part_of, rect_size, pixel_of};
 ghost use Rattle.draw_device.specs.Beside.{EachBeside, IsFarBeside};
@@ -152,7 +152,7 @@ impl Device {
         requires fit { FitAmong (rect_size self.old.rect) layer.now }
         requires near { AreNear self.old }
         ensures rect { self.new.rect ≡ self.old.rect }
-        ensures nearer { (picture : ℤ → ℤ → Pixel) → IsLayer self.old.rect picture layer.now
+        ensures nearer { (picture : ℤ → ℤ → Pixel) → IsLayerOf self.old.rect picture layer.now
             → EachTakes (λ x y old. nearer old (picture x y)) self.old self.new }
     {
         self.grid.take_nearer(layer);
@@ -163,7 +163,7 @@ impl Device {
         requires order { run.from ≤ run.to }
         requires inside { run.to ≤ rect_size self.now.rect }
         requires beside { IsFarBeside run self.now }
-        ensures { OnOk result (IsLayer self.now.rect (pixel_of self.now) layer.new) }
+        ensures { OnOk result (IsLayerOf self.now.rect (pixel_of self.now) layer.new) }
     {
         layer.copy_run(&self.grid, run)?;
         Ok(())

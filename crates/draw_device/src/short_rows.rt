@@ -3,7 +3,7 @@
 ghost use Rattle.std.specs.Prelude.{◌≡◌, ◌<◌, ◌≤◌, false, IfSome};
 ghost use Rattle.rc_base.specs.Drawing.PixelStep.{fragment_color, written_color};
 ghost use Rattle.raster.specs.Colors.{HasDepths};
-ghost use Rattle.draw_device.specs.Loops.{run_fragment, IsCoveredRow, IsDepthAt, IsReached, IsRunCovered};
+ghost use Rattle.draw_device.specs.Loops.{run_fragment, IsCoveredRow, IsDepthAt, IsPlaceInReach, IsRunCovered};
 ghost use Rattle.draw_device.specs.Setups.{IsRowDrawn, IsSourceOf};
 ghost use Rattle.draw_device.specs.Shades.{AreShades, IsLaid, AreNextShades};
 
@@ -57,7 +57,7 @@ fn shade_by(shades: &Shades, setup: &Setup<'_>, run: Run, x: u16) -> Rgba
     requires shades { AreShades setup.now.state.now setup.now.texture.now setup.now.tri.now.v run x shades.now }
     requires low { run.from ≤ x }
     requires high { x < run.to }
-    requires place { IsReached setup.now.tri.now.v run x }
+    requires place { IsPlaceInReach setup.now.tri.now.v run x }
     ensures { result ≡ fragment_color setup.now.state.now setup.now.texture.now (run_fragment setup.now.tri.now.v run x) }
 {
     match shades {

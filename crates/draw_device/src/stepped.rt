@@ -3,7 +3,7 @@ ghost use Rattle.std.specs.Prelude.{◌≡◌, List, ℤ, pos};
 ghost use Rattle.rc_base.specs.declared.window.WindowVertex.{WindowVertex};
 ghost use Rattle.raster.specs.Colors.{IsColorPlane};
 ghost use Rattle.raster.specs.Planes.{IsWordPlane};
-ghost use Rattle.draw_device.specs.Loops.{run_fragment, IsColorAt, IsDepthAt, IsReached, IsValueAt};
+ghost use Rattle.draw_device.specs.Loops.{run_fragment, IsColorAt, IsDepthAt, IsPlaceInReach, IsValueAt};
 
 use crate::run::Run;
 use raster::{ColorPlane, ColorRamp, WordPlane, WordRamp};
@@ -28,7 +28,7 @@ pub(crate) fn value_ramp(plane: &WordPlane, run: Run) -> WordRamp
 }
 
 pub(crate) fn color_by(ramp: &ColorRamp, tri: &WindowTriangle, run: Run, x: u16) -> Rgba
-    requires place { IsReached tri.now.v run x }
+    requires place { IsPlaceInReach tri.now.v run x }
     requires ramp { IsColorAt tri.now.v run x ramp.now }
     ensures { result ≡ (run_fragment tri.now.v run x).color }
 {
@@ -39,7 +39,7 @@ pub(crate) fn color_by(ramp: &ColorRamp, tri: &WindowTriangle, run: Run, x: u16)
 
 /// The depth there by a ramp of depths, or a texture coordinate by one of these.
 pub(crate) fn value_by(ramp: &WordRamp, tri: &WindowTriangle, run: Run, x: u16) -> i32
-    requires { IsReached tri.now.v run x }
+    requires { IsPlaceInReach tri.now.v run x }
     ensures depth { IsDepthAt tri.now.v run x ramp.now
         → result ≡ (run_fragment tri.now.v run x).depth }
     ensures s { IsValueAt tri.now.v run (λ (c : WindowVertex). c.s) x ramp.now

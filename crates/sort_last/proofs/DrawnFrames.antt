@@ -19,7 +19,7 @@ use Rattle.order_model.proofs.SceneListsAreWellFormed.{scene_row}
 use Rattle.scene_lemmas.proofs.Scenes.{scene_client_count}
 use Rattle.rc_base.specs.Cluster.Tiles.{is_in_rect}
 use Rattle.scene_lemmas.proofs.Triangles.{nearer_is_first}
-use Rattle.draw_device.specs.Active.{IsLayer}
+use Rattle.draw_device.specs.Active.{IsLayerOf}
 use Rattle.draw_device.specs.Devices.{DeviceView, EachTakes, IsBlankIn, pixel_of}
 use Rattle.draw_device.specs.declared.active.ActivePixels.{ActivePixels}
 use Rattle.sort_last.specs.Offends.{IsComposable}
@@ -62,20 +62,20 @@ drawn_on_blank scene client from count window old new over blank takes x y insid
     ∙ ap (λ (p : Pixel). fold (draw_if scene x y (shows pass.Layer scene)) p (names_from client from count)) (blank x y inside)
 
 -- a layer over the same rectangle whose pixels are the same there
-pub layer_same : (r window : Rect) (f g : ℤ → ℤ → Pixel) (a : ActivePixels) → r ≡ window → ((x y : ℤ) → is_in_rect r x y ≡ true → f x y ≡ g x y) → IsLayer r f a → IsLayer window g a
+pub layer_same : (r window : Rect) (f g : ℤ → ℤ → Pixel) (a : ActivePixels) → r ≡ window → ((x y : ℤ) → is_in_rect r x y ≡ true → f x y ≡ g x y) → IsLayerOf r f a → IsLayerOf window g a
 layer_same r window f g a over same h =
-    let here : IsLayer r g a = record {
+    let here : IsLayerOf r g a = record {
       fit = h.fit;
       among = λ x y inside low high. h.among x y inside low high ∙ same x y inside;
       beside = λ x y inside beside. ap (λ (p : Pixel). p.depth) (sym (same x y inside)) ∙ h.beside x y inside beside;
     } in
-    subst (λ (s : Rect). IsLayer s g a) over here
+    subst (λ (s : Rect). IsLayerOf s g a) over here
 
 -- the layer of one more frame
 pub frame_added : (scene : Scene) → IsComposable scene → (client frame : ℕ) → client < length scene.streams → frame < length (sync_row_of scene client).ops
     → (first from to : ℕ) (a : ActivePixels) (old new : List ActivePixels) → first ≤ frame → frame < first + length old
     → from ≡ start_of (sync_row_of scene client).ops frame → to ≡ start_of (sync_row_of scene client).ops (frame + 1)
-    → IsLayer (scene_window scene) (λ x y. fold (draw_if scene x y (shows pass.Layer scene)) blank_pixel (names_from client from (to - from))) a
+    → IsLayerOf (scene_window scene) (λ x y. fold (draw_if scene x y (shows pass.Layer scene)) blank_pixel (names_from client from (to - from))) a
     → new ≡ slice_set old (frame - first) a → HoldLayers scene client first frame old → HoldLayers scene client first (frame + 1) new
 frame_added scene d client frame lt inside first from to a old new low room begins ends layer items h =
     let at = frame - first in

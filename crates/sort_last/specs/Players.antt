@@ -16,7 +16,7 @@ use Rattle.rc_base.specs.declared.sync.WaitAt.{WaitAt}
 use Rattle.rc_base.specs.declared.window.Pixel.{Pixel}
 use Rattle.rc_base.specs.declared.window.Rect.{Rect}
 use Rattle.textures.specs.Images.{texture_image}
-use Rattle.draw_device.specs.Active.{IsLayer}
+use Rattle.draw_device.specs.Active.{IsLayerOf}
 use Rattle.draw_device.specs.Conditions.{shared_of}
 use Rattle.draw_device.specs.Devices.{DeviceView, EachTakes, IsBlankIn}
 use Rattle.draw_device.specs.declared.active.ActivePixels.{ActivePixels}
@@ -103,7 +103,7 @@ pub record IsBlankSheet (rect : Rect) (s : Sheet) : Type 0 where
 
 -- a client's layer of a frame, from 1
 abbrev pub IsClientLayer : Scene → ℕ → ℕ → ActivePixels → Type 0
-IsClientLayer scene client frame a = IsLayer (scene_window scene) (layer_pixel scene client frame) a
+IsClientLayer scene client frame a = IsLayerOf (scene_window scene) (layer_pixel scene client frame) a
 
 -- They hold a client's layers of its frames from `first` to below `end`, from the first one on. Those behind them are spare.
 pub record HoldLayers (scene : Scene) (client first end : ℕ) (layers : List ActivePixels) : Type 0 where

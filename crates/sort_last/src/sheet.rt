@@ -2,7 +2,7 @@
 ghost use Rattle.std.specs.Prelude.{◌≡◌, ◌<◌, length, slice_index_or, IfOk, OnOk};
 ghost use Rattle.rc_base.specs.Cluster.Tiles.{window_rect};
 ghost use Rattle.rc_base.specs.Drawing.Serial.{blank_pixel};
-ghost use Rattle.draw_device.specs.Active.{IsLayer};
+ghost use Rattle.draw_device.specs.Active.{IsLayerOf};
 ghost use Rattle.sort_last.specs.Players.{StandIn, context_before, context_behind, pixel_behind};
 ghost use Rattle.sort_last.specs.Players.{scene_window, IsBlankSheet, HoldEach};
 ghost use Rattle.sort_last.specs.declared.sheet.ClientLayers.{ClientLayers as TheLayers};
@@ -47,7 +47,7 @@ impl Sheet {
         requires sheet { IsBlankSheet (scene_window batch.now.scene.now) self.old }
         ensures context { OnOk result (context.new ≡ context_behind batch.now.scene.now names) }
         ensures sheet { OnOk result (IsBlankSheet (scene_window batch.now.scene.now) self.new) }
-        ensures layer { OnOk result (IsLayer (scene_window batch.now.scene.now)
+        ensures layer { OnOk result (IsLayerOf (scene_window batch.now.scene.now)
             (λ x y. pixel_behind batch.now.scene.now passes.Layer names x y blank_pixel) layer.new) }
     {
         play(DrawPass::Layer, batch, names, context, &mut self.device)?;

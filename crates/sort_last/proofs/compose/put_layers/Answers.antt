@@ -5,7 +5,7 @@ use Rattle.rc_base.specs.Drawing.Nearer.{nearer}
 use Rattle.rc_base.specs.Drawing.Window.{depth_most}
 use Rattle.rc_base.specs.declared.window.Pixel.{Pixel}
 use Rattle.rc_base.specs.declared.window.Rect.{Rect}
-use Rattle.draw_device.specs.Active.{FitAmong, IsLayer}
+use Rattle.draw_device.specs.Active.{FitAmong, IsLayerOf}
 use Rattle.draw_device.specs.Devices.{pixel_of, rect_size}
 use Rattle.sort_last.specs.Layers.{layer_pixel}
 use Rattle.sort_last.proofs.ComposedFrames.{layers_more, layers_near}
@@ -45,7 +45,7 @@ loop-client-preserved c =
     let lt : client < length a.layers.now = omega (arith, c.loop-client-test.true) in
     let layer = layer_is s a.batch.now.first a.frame a.batch.now.end client a.layers.now c.layers_at.result.now c.requires.frame.low c.requires.frame.less c.requires.layers lt
     (c.layers_at.ensures c.layers_at.result.now) c.layer-layer.result.now c.layer-layer.ensures in
-    let here = subst (λ (r : Rect). IsLayer r (layer_pixel s client (a.frame + 1)) c.layer-layer.result.now) (sym (i.rect ∙ c.requires.rect)) layer in
+    let here = subst (λ (r : Rect). IsLayerOf r (layer_pixel s client (a.frame + 1)) c.layer-layer.result.now) (sym (i.rect ∙ c.requires.rect)) layer in
     record {
       rect = c.take_nearer.ensures.rect ∙ i.rect;
       drawn = λ x y inside.
