@@ -1,6 +1,7 @@
 -- Clients that have drawn their frames.
 use Rattle.std.proofs.Common.{◌≡◌, ℕ, ◌+◌, ◌-◌, ◌<◌, ◌≤◌, List, [], ◌∷◌, ◌++◌, length, length-append, inl, inr, ap, refl, sym, true, subst, ◌∙◌, arith, ℤ}
-use Rattle.std.specs.Prelude.{fold, slice_index_or, slice_set}
+use Rattle.std.specs.Prelude.{Ok, IfOk, fold, slice_index_or, slice_set}
+use Rattle.std.specs.declared.result.Result.{Result}
 use Rattle.std.proofs.lemmas.Bool.{cases_eq, cases_lt}
 use Rattle.std.proofs.lemmas.Grind.{get_or-set_at}
 use Rattle.std.proofs.lemmas.List.{get_or_append_left, get_or-append-add, get_or-set_other, length-set}
@@ -9,11 +10,13 @@ use Rattle.rc_base.specs.Drawing.Serial.{blank_pixel}
 use Rattle.rc_base.specs.Drawing.Window.{depth_most}
 use Rattle.rc_base.specs.Orders.Order.{names_from}
 use Rattle.rc_base.specs.Orders.Sync.{client_count, client_row, sync_row_of, sync_lists_of}
+use Rattle.rc_base.specs.declared.out_of_memory.OutOfMemory.{OutOfMemory}
 use Rattle.rc_base.specs.declared.scene.Scene.{Scene}
 use Rattle.rc_base.specs.declared.sync.SyncLists.{SyncLists}
 use Rattle.rc_base.specs.declared.sync.SyncRow.{SyncRow}
 use Rattle.rc_base.specs.declared.window.Pixel.{Pixel}
 use Rattle.rc_base.specs.declared.window.Rect.{Rect}
+use Rattle.rc_base.proofs.Paired.{is_next, next_within}
 use Rattle.rc_base.proofs.WithinLimits.{clients_within}
 use Rattle.order_model.proofs.SceneListsAreWellFormed.{scene_row}
 use Rattle.scene_lemmas.proofs.Scenes.{scene_client_count}
@@ -23,8 +26,9 @@ use Rattle.draw_device.specs.Active.{IsLayerOf}
 use Rattle.draw_device.specs.Devices.{DeviceView, EachTakes, IsBlankIn, pixel_of}
 use Rattle.draw_device.specs.declared.active.ActivePixels.{ActivePixels}
 use Rattle.sort_last.specs.Offends.{IsComposable}
-use Rattle.sort_last.specs.Players.{HoldLayers, HoldEach, IsClientLayer, scene_window, shows, draw_if, start_of}
+use Rattle.sort_last.specs.Players.{HoldLayers, HoldEach, IsClientLayer, IsBegun, AreBegun, scene_window, shows, draw_if, start_of}
 use Rattle.sort_last.specs.declared.play.DrawPass.TheVariants as pass
+use Rattle.sort_last.specs.declared.player.Player.{Player}
 use Rattle.sort_last.specs.declared.sheet.ClientLayers.{ClientLayers}
 use Rattle.sort_last.proofs.ComposedFrames.{depths}
 use Rattle.sort_last.proofs.FrameBounds.{frame_layer}
@@ -101,6 +105,14 @@ frame_added scene d client frame lt inside first from to a old new low room begi
 -- any layers are those of no frames
 pub no_frames : (scene : Scene) (client frame : ℕ) (layers : List ActivePixels) → HoldLayers scene client frame frame layers
 no_frames scene client frame layers = record { room = omega arith; each = λ k a less. absurd (omega (arith, less)) }
+
+-- the next of the clients that were made is before its first frame
+pub next_begun : (scene : Scene) (made front rest more : List (Result Player OutOfMemory)) (r : Result Player OutOfMemory) → AreBegun scene made → made ≡ front ++ rest → rest ≡ r ∷ more
+    → (p : Player) → r ≡ Ok p → IsBegun scene p
+next_begun scene made front rest more r begun parts next p is =
+    let low = next_within made front rest more r parts next in
+    let count = begun.count in
+    subst (λ (q : Result Player OutOfMemory). IfOk q (IsBegun scene)) (is_next made front rest more r r parts next ∙ is) (begun.each (length front) r (omega (arith, low, count)))
 
 -- a batch is done with
 pub layers_done : (scene : Scene) (first end : ℕ) (layers : List ClientLayers) → HoldEach scene first end layers → HoldEach scene end end layers

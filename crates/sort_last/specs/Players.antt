@@ -1,5 +1,6 @@
 -- What a client's player carries out of its commands.
-use Rattle.std.specs.Prelude.{◌≡◌, ℕ, zero, suc, ◌+◌, ◌-◌, ◌<◌, ◌≤◌, not, Bool, true, List, fold, length, slice_index_or, Option, if◌then◌else◌, ℤ}
+use Rattle.std.specs.Prelude.{◌≡◌, ℕ, zero, suc, ◌+◌, ◌-◌, ◌<◌, ◌≤◌, not, Bool, true, List, fold, length, slice_index_or, Option, if◌then◌else◌, ℤ, IfOk}
+use Rattle.std.specs.declared.result.Result.{Result}
 use Rattle.rc_base.specs.Pictures.{Picture}
 use Rattle.rc_base.specs.Contexts.Context.{ClientContext}
 use Rattle.rc_base.specs.Contexts.Issue.{stream_of, context_after, effect_at}
@@ -8,6 +9,7 @@ use Rattle.rc_base.specs.Drawing.PixelStep.{effect_step}
 use Rattle.rc_base.specs.Drawing.Serial.{blank_pixel, blank_textures, pixel_step}
 use Rattle.rc_base.specs.Orders.Order.{names_from}
 use Rattle.rc_base.specs.Orders.Sync.{sync_row_of}
+use Rattle.rc_base.specs.declared.out_of_memory.OutOfMemory.{OutOfMemory}
 use Rattle.rc_base.specs.declared.scene.Scene.{Scene}
 use Rattle.rc_base.specs.declared.state.Effect.{Effect}
 use Rattle.rc_base.specs.declared.sync.Name.{Name}
@@ -115,6 +117,15 @@ pub record HasDrawn (scene : Scene) (client first end : ℕ) (p : Player) : Type
   pub context : p.context ≡ context_after scene client (start_of (sync_row_of scene client).ops end)
   pub sheet : IsBlankSheet (scene_window scene) p.sheet
   pub layers : HoldLayers scene client first end p.layers.items
+
+-- before its first frame, whichever client it is
+abbrev pub IsBegun : Scene → Player → Type 0
+IsBegun scene p = (client : ℕ) → HasDrawn scene client 0 0 p
+
+-- so is each of them, where there was memory for it
+pub record AreBegun (scene : Scene) (made : List (Result Player OutOfMemory)) : Type 0 where
+  pub count : length made ≡ length scene.streams
+  pub each : (k : ℕ) (r : Result Player OutOfMemory) → k < length scene.streams → IfOk (slice_index_or made k r) (IsBegun scene)
 
 -- a client has drawn its frames up to below one, and has the layers of those of the batch among them
 abbrev pub HasPlayed : Batch → ℕ → ℕ → Player → Type 0

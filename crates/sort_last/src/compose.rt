@@ -201,11 +201,15 @@ struct Composition {
 
 impl Composition {
     // Before the first frame.
-    fn new(alloc: Global, scene: &StoredScene) -> Result<Composition, OutOfMemory>
+    fn new(
+        rt: &(impl Threads + Sync),
+        alloc: Global,
+        scene: &StoredScene,
+    ) -> Result<Composition, OutOfMemory>
         ensures { IfOk result (λ c. IsUpTo scene.now 0 0 c) }
     {
         Ok(Composition {
-            players: players_of(alloc, scene)?,
+            players: players_of(rt, alloc, scene)?,
             window: Window::new(alloc, scene)?,
         })
     }
@@ -299,7 +303,7 @@ pub(crate) fn draw_frames(
         first: 0,
         end: count,
     };
-    let mut composition = Composition::new(alloc, scene)?;
+    let mut composition = Composition::new(rt, alloc, scene)?;
     composition.show_frames(rt, alloc, &all)?;
     let window = composition.window;
     Ok(window.frames)

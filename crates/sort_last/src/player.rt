@@ -1,8 +1,8 @@
 //! A client that draws its frames alone.
-ghost use Rattle.std.specs.Prelude.{◌≡◌, ℕ, ◌+◌, ◌<◌, ◌≤◌, length, true, IfOk, OnOk};
+ghost use Rattle.std.specs.Prelude.{◌≡◌, ◌+◌, ◌<◌, ◌≤◌, length, true, IfOk, OnOk};
 ghost use Rattle.rc_base.specs.Orders.Sync.{client_count, client_row};
-ghost use Rattle.sort_last.specs.Players.{start_of, AreNamesOf, IsInBatch, HasDrawn, IsClientIn, HasPlayed, StartsBatch, EndsBatch, HasLayerRoom};
-ghost use Rattle.sort_last.specs.Players.{HaveDrawn, HoldEach, HaveLayers, AreDrawn, AreWhole, AreAtMost, AreAllAtMost};
+ghost use Rattle.sort_last.specs.Players.{start_of, AreNamesOf, IsInBatch, IsClientIn, HasPlayed, StartsBatch, EndsBatch, HasLayerRoom};
+ghost use Rattle.sort_last.specs.Players.{HaveDrawn, HoldEach, HaveLayers, AreDrawn, AreWhole, AreAtMost, AreAllAtMost, IsBegun, AreBegun};
 
 use crate::apart::{Batch, ClientNames};
 use crate::sheet::{ClientLayers, Sheet};
@@ -13,6 +13,7 @@ use rayon::prelude::*;
 use rc_base::out_of_memory::OutOfMemory;
 use rc_base::sync::{SyncLists, SyncRow};
 use std::alloc::Global;
+use std::thread;
 use std::thread::Threads;
 
 // The operations of a client.
@@ -71,7 +72,7 @@ pub(crate) struct Player {
 impl Player {
     /// A client before its first frame.
     fn new(alloc: Global, scene: &StoredScene) -> Result<Player, OutOfMemory>
-        ensures { IfOk result (λ p. (client : ℕ) → HasDrawn scene.now client 0 0 p) }
+        ensures { IfOk result (λ p. IsBegun scene.now p) }
     {
         Ok(Player {
             context: Context::new(alloc, scene.decl())?,
@@ -174,15 +175,47 @@ impl Player {
     }
 }
 
-/// The clients of a scene before their first frames.
-pub(crate) fn players_of(alloc: Global, scene: &StoredScene) -> Result<Vec<Player>, OutOfMemory>
+// The clients before their first frames, each made in a thread of its own, where one can be made: a blank sheet is written page by page.
+fn begun_apart(
+    rt: &(impl Threads + Sync),
+    alloc: Global,
+    scene: &StoredScene,
+) -> Result<Vec<Result<Player, OutOfMemory>>, OutOfMemory>
+    ensures { IfOk result (λ v. AreBegun scene.now v.items) }
+{
+    let begin = |_client: usize| -> Result<Player, OutOfMemory>
+        ensures { IfOk result (λ p. IsBegun scene.entry.now p) }
+    { Player::new(alloc, scene) };
+    Ok(thread::map_indices(rt, alloc, scene.streams().len(), &begin)?)
+}
+
+// Those that were made, where there was memory for all of them.
+fn all_begun(
+    alloc: Global,
+    scene: &StoredScene,
+    made: Vec<Result<Player, OutOfMemory>>,
+) -> Result<Vec<Player>, OutOfMemory>
+    requires { AreBegun scene.now made.items }
     ensures { IfOk result (λ v. HaveDrawn scene.now 0 0 v.items) }
 {
+    let _scene = scene;
     let mut players = Vec::new(alloc);
-    for _ in 0..scene.streams().len() {
-        players.push(Player::new(alloc, scene)?)?;
+    for one in made {
+        let player = one?;
+        players.push(player)?;
     }
     Ok(players)
+}
+
+/// The clients of a scene before their first frames.
+pub(crate) fn players_of(
+    rt: &(impl Threads + Sync),
+    alloc: Global,
+    scene: &StoredScene,
+) -> Result<Vec<Player>, OutOfMemory>
+    ensures { IfOk result (λ v. HaveDrawn scene.now 0 0 v.items) }
+{
+    all_begun(alloc, scene, begun_apart(rt, alloc, scene)?)
 }
 
 // Each client draws its frames of the batch, in as many threads as there are processors.
